@@ -1,0 +1,67 @@
+// An event: the four bytes, and the five things that they can say.
+ghost use mathlib.Core.Path.{_≡_};
+ghost use Prim.Native.Nat.{_+_, _*_, _≤_};
+ghost use lib.ListN.{length};
+ghost use Rattle.jobfile.specs.Coding.{eventOf, decodeAt};
+
+// One of five things; two carry a record.
+pub enum Event {
+    Spawn,
+    End,
+    Sync,
+    Read(u16),
+    Write(u16),
+}
+
+// What four bytes are read as: an event, or the number of a refusal.
+pub enum Decoded {
+    Event(Event),
+    Refused(u32),
+}
+
+// Two bytes as a number, the low one first.
+fn pair(low: u8, high: u8) -> u16
+    ensures { λ r. ⌜ r ≡ low + 256 * high ⌝ }
+{
+    (low as u16) + 256 * (high as u16)
+}
+
+// Refusal 8 has three grounds: the kind, else the second byte, else a record that the kind cannot have.
+fn event_of(kind: u8, second: u8, number: u16) -> Decoded
+    ensures { λ r. ⌜ r ≡ eventOf kind second number ⌝ }
+{
+    if kind == 0 {
+        return Decoded::Refused(8);
+    }
+    if kind > 5 {
+        return Decoded::Refused(8);
+    }
+    if second != 0 {
+        return Decoded::Refused(8);
+    }
+    if kind == 4 {
+        return Decoded::Event(Event::Read(number));
+    }
+    if kind == 5 {
+        return Decoded::Event(Event::Write(number));
+    }
+    if number != 0 {
+        return Decoded::Refused(8);
+    }
+    if kind == 1 {
+        return Decoded::Event(Event::Spawn);
+    }
+    if kind == 2 {
+        return Decoded::Event(Event::End);
+    }
+    Decoded::Event(Event::Sync)
+}
+
+// The event of the four bytes at `at`.
+// requires: the four bytes are there; the callers walk a part that holds whole events.
+pub fn decode(part: &[u8], at: usize) -> Decoded
+    requires { ⌜ at + 4 ≤ length (now part) ⌝ }
+    ensures { λ r. ⌜ r ≡ decodeAt (now (part .entry)) at ⌝ }
+{
+    event_of(part[at], part[at + 1], pair(part[at + 2], part[at + 3]))
+}

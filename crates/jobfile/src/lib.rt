@@ -1,0 +1,6 @@
+// Job files.
+mod coding;
+
+pub use coding::Decoded;
+pub use coding::Event;
+pub use coding::decode;
