@@ -1,1 +1,3 @@
 pub mod Walk
+pub mod Depth
+pub mod Agree
