@@ -212,8 +212,11 @@ module _ (ev : ℕ → Event) where
       go : Dec (p < birth ev q (strandAt ev q)) → p < birth ev q (strandAt ev q)
       go (yes h) = h
       go (no h) =
-          absurd (omega (arith, begun-rises (birth ev q (strandAt ev q)) p (omega arith),
-          birth-current q (strandAt ev q) (omega (arith, begun-some q))))
+          absurd (omega (
+            arith,
+            begun-rises (birth ev q (strandAt ev q)) p (omega arith),
+            birth-current q (strandAt ev q) (omega (arith, begun-some q)),
+          ))
 
   -- two accesses of two strands compare as the strands do where they begin
   pub strands-compare : (p q : ℕ) → p ≤ q → Rooted ev q → strandAt ev p < strandAt ev q
