@@ -1,1 +1,5 @@
 pub mod Tests
+pub mod Head
+pub mod Flags
+pub mod Turns
+pub mod Whole

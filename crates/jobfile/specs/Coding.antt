@@ -1,4 +1,5 @@
 -- An event: kind, a zero byte, record number (2 bytes).
+use mathlib.Core.Path.{_≡_}
 use Prim.Native.Nat.{ℕ, _+_, _*_}
 use mathlib.Core.List.{List}
 use mathlib.Core.Bool.{Bool, cond}
@@ -24,6 +25,11 @@ eventOf kind second number =
     (An Sync)))
     (Refused 8))))
     (Refused 8)))
+
+-- the bound that a caller needs
+abbrev pub DecodeFits : Decoded → Type 0
+DecodeFits (An e) = Unit {0}
+DecodeFits (Refused k) = k ≡ 8
 
 -- the four bytes from a place on, as an event
 abbrev pub decodeAt : List ℕ → ℕ → Decoded

@@ -2,7 +2,7 @@
 ghost use mathlib.Core.Path.{_≡_};
 ghost use Prim.Native.Nat.{_+_, _*_, _≤_};
 ghost use lib.ListN.{length};
-ghost use Rattle.jobfile.specs.Coding.{eventOf, decodeAt};
+ghost use Rattle.jobfile.specs.Coding.{eventOf, decodeAt, DecodeFits};
 
 // One of five things; two carry a record.
 pub enum Event {
@@ -29,6 +29,7 @@ fn pair(low: u8, high: u8) -> u16
 // Refusal 8 has three grounds: the kind, else the second byte, else a record that the kind cannot have.
 fn event_of(kind: u8, second: u8, number: u16) -> Decoded
     ensures { λ r. ⌜ r ≡ eventOf kind second number ⌝ }
+    ensures { λ r. ⌜ DecodeFits r ⌝ }
 {
     if kind == 0 {
         return Decoded::Refused(8);
@@ -62,6 +63,7 @@ fn event_of(kind: u8, second: u8, number: u16) -> Decoded
 pub fn decode(part: &[u8], at: usize) -> Decoded
     requires { ⌜ at + 4 ≤ length (now part) ⌝ }
     ensures { λ r. ⌜ r ≡ decodeAt (now (part .entry)) at ⌝ }
+    ensures { λ r. ⌜ DecodeFits r ⌝ }
 {
     event_of(part[at], part[at + 1], pair(part[at + 2], part[at + 3]))
 }

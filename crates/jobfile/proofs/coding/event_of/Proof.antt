@@ -1,55 +1,45 @@
+-- `jobfile::coding::event_of` meets its contract: at each return the tests that led there say which case of `eventOf` holds. Assumes nothing.
 use borrow.Author.Needs.{needs}
 use Rattle.jobfile.specs.Coding.{eventOf}
 use Rattle.jobfile.proofs.Tests.{tests}
 use Rattle.jobfile.proofs.coding.event_of.Statement.{statement}
 use Rattle.jobfile.proofs.coding.event_of.Tie as tie
-use Rattle.jobfile.proofs.coding.event_of.Reads as reads
-use Rattle.jobfile.proofs.coding.event_of.Lts as lts
 
--- src/coding.rt:34:9
 returns : tie.Need-returns
 unfolding eventOf
-returns c = search (needs, tests)
+returns c = (search (needs, tests), search needs)
 
--- src/coding.rt:37:9
 returns-2 : tie.Need-returns-2
 unfolding eventOf
-returns-2 c = search (needs, tests)
+returns-2 c = (search (needs, tests), search needs)
 
--- src/coding.rt:40:9
 returns-3 : tie.Need-returns-3
 unfolding eventOf
-returns-3 c = search (needs, tests)
+returns-3 c = (search (needs, tests), search needs)
 
--- src/coding.rt:43:9
 returns-4 : tie.Need-returns-4
 unfolding eventOf
-returns-4 c = search (needs, tests)
+returns-4 c = (search (needs, tests), search needs)
 
--- src/coding.rt:46:9
 returns-5 : tie.Need-returns-5
 unfolding eventOf
-returns-5 c = search (needs, tests)
+returns-5 c = (search (needs, tests), search needs)
 
--- src/coding.rt:49:9
 returns-6 : tie.Need-returns-6
 unfolding eventOf
-returns-6 c = search (needs, tests)
+returns-6 c = (search (needs, tests), search needs)
 
--- src/coding.rt:52:9
 returns-7 : tie.Need-returns-7
 unfolding eventOf
-returns-7 c = search (needs, tests)
+returns-7 c = (search (needs, tests), search needs)
 
--- src/coding.rt:55:9
 returns-8 : tie.Need-returns-8
 unfolding eventOf
-returns-8 c = search (needs, tests)
+returns-8 c = (search (needs, tests), search needs)
 
--- src/coding.rt:30:1
 returns-9 : tie.Need-returns-9
 unfolding eventOf
-returns-9 c = search (needs, tests)
+returns-9 c = (search (needs, tests), search needs)
 
 pub event-of-spec : {M : Type 1} → statement M
 event-of-spec =
