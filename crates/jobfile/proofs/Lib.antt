@@ -3,3 +3,4 @@ pub mod Head
 pub mod Flags
 pub mod Turns
 pub mod Whole
+pub mod Accepted
