@@ -22,8 +22,8 @@ pub record Answer : Type 0 where
 
 abbrev pub judged : List Event → Answer
 judged events = record {
-    answer = verdict (listed events) (length events);
-    strands = begunAt (listed events) (stopAt (listed events) (length events))
+  answer = verdict (listed events) (length events);
+  strands = begunAt (listed events) (stopAt (listed events) (length events));
 }
 
 -- the starred cases, 1 to 10

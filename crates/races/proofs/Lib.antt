@@ -1,2 +1,4 @@
 pub mod Search
+pub mod Places
+pub mod Found
 pub mod Cases

@@ -32,9 +32,7 @@ recordOf (Write r) = r
 
 -- "two accesses [..], at least one a write"
 abbrev pub conflict : Access → Access → Bool
-conflict other other = false
-conflict other read = false
-conflict other write = false
+conflict other b = false
 conflict read other = false
 conflict read read = false
 conflict read write = true
