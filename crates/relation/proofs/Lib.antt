@@ -1,1 +1,6 @@
 pub mod Walk
+pub mod Depth
+pub mod Agree
+pub mod Strand
+pub mod Laws
+pub mod Prefix

@@ -1,0 +1,296 @@
+-- Parallel by the definition is what the walk computes.
+-- The events that opened the open tasks say, at an end, which task it closes; from them the walk's answer true gets its spawn and its
+-- end. The other way round the walker, at the end of the task that the definition names, stands at height 0 and turns true, and no
+-- event of the parent turns it back. Assumes nothing.
+use mathlib.Core.Path.{_≡_, refl, sym, ap, _∙_, subst}
+use mathlib.Core.Logic.{⊎-elim, _≢_, _↔_}
+use mathlib.Core.Bool.{Bool, true, false, false≢true}
+use mathlib.Core.List.{List, [], _∷_}
+use Prim.Native.Nat.{ℕ, zero, suc, _+_, _-_, _≤_, _<_}
+use native.Mathlib.Omega.{arith}
+use native.Mathlib.Decide.{decLe}
+use Rattle.jobfile.specs.Trace.{depthAt, tasksAt}
+use Rattle.jobfile.specs.declared.coding.Event.{Event}
+use Rattle.jobfile.specs.declared.coding.Event.the-variants.{Spawn, End, Sync, Read, Write}
+use Rattle.relation.specs.Parallel.{By, Parallel, Rooted}
+use Rattle.relation.specs.Walk.{isSpawn, Move, moveOf, restack, headOr, Walker, moved, move, start, opened, spawned, moveAt, walk, par}
+use Rattle.relation.proofs.Depth.{bump, depth-at, last-or}
+use Rattle.relation.proofs.Walk.{from, walk-start, walk-step, par-step}
+
+is-spawn : (x : Event) → isSpawn x ≡ true → x ≡ Spawn
+is-spawn Spawn t = refl
+is-spawn End t = absurd (false≢true t)
+is-spawn Sync t = absurd (false≢true t)
+is-spawn (Read r) t = absurd (false≢true t)
+is-spawn (Write r) t = absurd (false≢true t)
+
+-- an event that is no sync and no end
+abbrev Quiet : Event → Type 0
+Quiet Spawn = Unit {0}
+Quiet End = ⊥
+Quiet Sync = ⊥
+Quiet (Read r) = Unit {0}
+Quiet (Write r) = Unit {0}
+
+quiet-event : (x y : Event) → y ≡ x → Quiet x → (y ≢ Sync) × (y ≢ End)
+quiet-event x y e t = (λ z. subst Quiet (sym e ∙ z) t, λ z. subst Quiet (sym e ∙ z) t)
+
+module _ (ev : ℕ → Event) where
+  -- event s opened a task that is open just before event n, and whose own events are at depth d
+  record Opened (n d s : ℕ) : Type 0 where
+    below : s < n
+    level : d ≡ suc (depthAt ev s)
+    over : (m : ℕ) → s < m → m ≤ n → depthAt ev s < depthAt ev m
+
+  abbrev AllOpened : ℕ → ℕ → List ℕ → Type 0
+  AllOpened n d [] = d ≡ 1
+  AllOpened n d (s ∷ os) = Opened n d s × AllOpened n (depthAt ev s) os
+
+  all-keep : (n d : ℕ) (os : List ℕ) → d ≤ depthAt ev (suc n) → AllOpened n d os → AllOpened (suc n) d os
+  all-keep n d [] le o = o
+  all-keep n d (s ∷ os) le o = (first, all-keep n (depthAt ev s) os (omega arith) (o .1))
+    where
+      first : Opened (suc n) d s
+      first = record {
+        below = omega arith;
+        level = o .0 .level;
+        over = λ m sm mn. ⊎-elim (λ (l : m ≤ n). o .0 .over m sm l) (λ (e : m ≡ suc n). rw e (omega arith)) (last-or m n mn);
+      }
+
+  all-push : (n : ℕ) (os : List ℕ) → depthAt ev (suc n) ≡ suc (depthAt ev n) → AllOpened n (depthAt ev n) os
+      → AllOpened (suc n) (suc (depthAt ev n)) (n ∷ os)
+  all-push n os d o = (first, all-keep n (depthAt ev n) os (omega arith) o)
+    where
+      first : Opened (suc n) (suc (depthAt ev n)) n
+      first = record {
+        below = omega arith;
+        level = refl;
+        over = λ m nm mn. let e : m ≡ suc n = omega arith in rw e (omega arith);
+      }
+
+  all-pop : (n : ℕ) (os : List ℕ) → depthAt ev (suc n) ≡ depthAt ev n - 1 → 1 ≤ depthAt ev (suc n) → AllOpened n (depthAt ev n) os
+      → AllOpened (suc n) (depthAt ev n - 1) (restack End n os)
+  all-pop n [] d w o = omega arith
+  all-pop n (s ∷ os) d w o =
+      let e : depthAt ev n - 1 ≡ depthAt ev s = omega (arith, o .0 .level) in
+      rw e (all-keep n (depthAt ev s) os (omega arith) (o .1))
+
+  all-next : (n : ℕ) (x : Event) (os : List ℕ) → ev n ≡ x → 1 ≤ depthAt ev (suc n) → AllOpened n (depthAt ev n) os
+      → AllOpened (suc n) (bump x (depthAt ev n)) (restack x n os)
+  all-next n Spawn os e w o = all-push n os (depth-at ev n Spawn e) o
+  all-next n End os e w o = all-pop n os (depth-at ev n End e) w o
+  all-next n Sync os e w o = all-keep n (depthAt ev n) os (omega (arith, depth-at ev n Sync e)) o
+  all-next n (Read r) os e w o = all-keep n (depthAt ev n) os (omega (arith, depth-at ev n (Read r) e)) o
+  all-next n (Write r) os e w o = all-keep n (depthAt ev n) os (omega (arith, depth-at ev n (Write r) e)) o
+
+  all-opened : (n : ℕ) → Rooted ev n → AllOpened n (depthAt ev n) (opened ev n)
+  unfolding opened tasksAt
+  all-opened zero rooted = refl
+  all-opened (suc n) rooted =
+      rw (depth-at ev n (ev n) refl)
+      (all-next n (ev n) (opened ev n) refl (rooted (suc n) (omega arith)) (all-opened n (λ m l. rooted m (omega arith))))
+
+  -- what holds of a walker from p at q: `level` is the depth of the innermost task that is still open and contained p, and `low` a
+  -- position where that task was current
+  record Walked (p q h : ℕ) (b : Bool) : Type 0 where
+    level : ℕ
+    under : level + h ≡ depthAt ev q
+    above : (m : ℕ) → p ≤ m → m ≤ q → level ≤ depthAt ev m
+    low : ℕ
+    p≤low : p ≤ low
+    low≤q : low ≤ q
+    at-low : depthAt ev low ≡ level
+    sound : b ≡ true → (s : ℕ) × (e : ℕ) × By ev p q s e × (depthAt ev s ≡ level)
+
+  -- a task goes on to make p parallel over an event that is no sync and no end of its parent
+  by-keep : (p q s e : ℕ) → By ev p q s e → (depthAt ev q ≡ depthAt ev s → (ev q ≢ Sync) × (ev q ≢ End)) → By ev p (suc q) s e
+  by-keep p q s e B f = record {
+    s<p = B .s<p;
+    p≤e = B .p≤e;
+    e<q = omega arith;
+    at-s = B .at-s;
+    at-e = B .at-e;
+    level = B .level;
+    inside = B .inside;
+    quiet = λ m em mq d.
+        ⊎-elim (λ (l : suc m ≤ q). B .quiet m em l d) (λ (l : suc m ≡ suc q). let z : m ≡ q = omega arith in rw z (f (rw z at d)))
+        (last-or (suc m) q mq);
+  }
+
+  -- any event but a sync or an end at height 0
+  walked-keep : (p q h h′ : ℕ) (b : Bool) → p ≤ q → (w : Walked p q h b) → w .level + h′ ≡ depthAt ev (suc q)
+      → (depthAt ev q ≡ w .level → (ev q ≢ Sync) × (ev q ≢ End)) → Walked p (suc q) h′ b
+  walked-keep p q h h′ b pq w d f = record {
+    level = w .level;
+    under = d;
+    above = λ m pm mq. ⊎-elim (λ (l : m ≤ q). w .above m pm l) (λ (e : m ≡ suc q). rw e (omega arith)) (last-or m q mq);
+    low = w .low;
+    p≤low = w .p≤low;
+    low≤q = omega arith;
+    at-low = w .at-low;
+    sound = λ t. let P = w .sound t in (P .0, P .1, by-keep p q (P .0) (P .1) (P .2) (λ z. f (z ∙ P .3)), P .3);
+  }
+
+  -- a sync at height 0
+  walked-sync : (p q : ℕ) (b : Bool) → p ≤ q → (w : Walked p q 0 b) → depthAt ev (suc q) ≡ depthAt ev q → Walked p (suc q) 0 false
+  walked-sync p q b pq w d = record {
+    level = w .level;
+    under = w .under ∙ sym d;
+    above = λ m pm mq. ⊎-elim (λ (l : m ≤ q). w .above m pm l) (λ (e : m ≡ suc q). rw e (omega arith)) (last-or m q mq);
+    low = w .low;
+    p≤low = w .p≤low;
+    low≤q = omega arith;
+    at-low = w .at-low;
+    sound = λ t. absurd (false≢true t);
+  }
+
+  -- an end at height 0, of the task that event s opened
+  walked-end : (p q s : ℕ) (b : Bool) → p ≤ q → (w : Walked p q 0 b) → ev q ≡ End → depthAt ev (suc q) ≡ depthAt ev q - 1
+      → Opened q (depthAt ev q) s → Walked p (suc q) 0 (isSpawn (ev s))
+  walked-end p q s b pq w x d o = record {
+    level = depthAt ev (suc q);
+    under = omega arith;
+    above = λ m pm mq. ⊎-elim (λ (l : m ≤ q). omega (arith, w .above m pm l)) (λ (e : m ≡ suc q). rw e (omega arith)) (last-or m q mq);
+    low = suc q;
+    p≤low = omega arith;
+    low≤q = omega arith;
+    at-low = refl;
+    sound = λ t. (s, q, by t, omega (arith, o .level));
+  }
+    where
+      early : Dec (p ≤ s) → s < p
+      early (yes ps) = absurd (omega (arith, w .above s ps (omega arith)))
+      early (no ps) = omega arith
+
+      by : isSpawn (ev s) ≡ true → By ev p (suc q) s q
+      by t = record {
+        s<p = early (decLe p s);
+        p≤e = pq;
+        e<q = omega arith;
+        at-s = is-spawn (ev s) t;
+        at-e = x;
+        level = o .level;
+        inside = λ m sm mq. o .over m sm (omega arith);
+        quiet = λ m em mq z. absurd (omega arith);
+      }
+
+  -- the move of an event, by the events that opened the open tasks
+  abbrev moveBy : Event → List ℕ → Move
+  moveBy x os = moveOf x (isSpawn (ev (headOr os 0)))
+
+  walked-step : (p q h : ℕ) (b : Bool) (x : Event) (os : List ℕ) → ev q ≡ x → p ≤ q → 1 ≤ depthAt ev (suc q)
+      → AllOpened q (depthAt ev q) os → Walked p q h b
+      → Walked p (suc q) (moved (moveBy x os) h b .height) (moved (moveBy x os) h b .par)
+  walked-step p q h b Spawn os e pq r o w =
+      walked-keep p q h (suc h) b pq w (omega (arith, depth-at ev q Spawn e, w .under)) (λ z. quiet-event Spawn (ev q) e tt)
+  walked-step p q zero b End [] e pq r o w = absurd (omega (arith, depth-at ev q End e, o))
+  walked-step p q zero b End (s ∷ os) e pq r o w = walked-end p q s b pq w e (depth-at ev q End e) (o .0)
+  walked-step p q (suc h) b End os e pq r o w =
+      walked-keep p q (suc h) h b pq w (omega (arith, depth-at ev q End e, w .under)) (λ z. absurd (omega arith))
+  walked-step p q zero b Sync os e pq r o w = walked-sync p q b pq w (depth-at ev q Sync e)
+  walked-step p q (suc h) b Sync os e pq r o w =
+      walked-keep p q (suc h) (suc h) b pq w (omega (arith, depth-at ev q Sync e)) (λ z. absurd (omega arith))
+  walked-step p q h b (Read k) os e pq r o w =
+      walked-keep p q h h b pq w (omega (arith, depth-at ev q (Read k) e)) (λ z. quiet-event (Read k) (ev q) e tt)
+  walked-step p q h b (Write k) os e pq r o w =
+      walked-keep p q h h b pq w (omega (arith, depth-at ev q (Write k) e)) (λ z. quiet-event (Write k) (ev q) e tt)
+
+  walked-start : (p : ℕ) → Walked p p 0 false
+  walked-start p = record {
+    level = depthAt ev p;
+    under = omega arith;
+    above = λ m pm mp. let e : m ≡ p = omega arith in rw e (omega arith);
+    low = p;
+    p≤low = omega arith;
+    low≤q = omega arith;
+    at-low = refl;
+    sound = λ t. absurd (false≢true t);
+  }
+
+  walked : (p q : ℕ) → p ≤ q → Rooted ev q → Walked p q (walk ev p q .height) (walk ev p q .par)
+  unfolding moveAt
+  walked p q pq rooted =
+      from (λ (n : ℕ). Rooted ev n → Walked p n (walk ev p n .height) (walk ev p n .par)) p
+      (λ z. rw walk-start (walked-start p))
+      (λ n pn ih z. rw (walk-step ev p n pn) (next n pn z (ih (λ m l. z m (omega arith)))))
+      q pq rooted
+    where
+      next : (n : ℕ) → p ≤ n → Rooted ev (suc n) → Walked p n (walk ev p n .height) (walk ev p n .par)
+          → Walked p (suc n) (move (moveAt ev n) (walk ev p n) .height) (move (moveAt ev n) (walk ev p n) .par)
+      next n pn z w =
+          walked-step p n (walk ev p n .height) (walk ev p n .par) (ev n) (opened ev n) refl pn (z (suc n) (omega arith))
+          (all-opened n (λ m l. z m (omega arith))) w
+
+  -- from the walk to the definition
+  pub walk-sound : (p q : ℕ) → p ≤ q → Rooted ev q → par ev p q ≡ true → Parallel ev p q
+  walk-sound p q pq rooted t = let P = (walked p q pq rooted) .sound t in (P .0, P .1, P .2)
+
+  -- the event that opened the task that e closes
+  opener : (p q s e : ℕ) → Rooted ev q → By ev p q s e → (os : List ℕ) → AllOpened e (depthAt ev e) os → headOr os 0 ≡ s
+  opener p q s e rooted B [] o = absurd (omega (arith, o, B .level, rooted s (omega arith)))
+  opener p q s e rooted B (s′ ∷ os) o = go (decLe (suc s) s′) (decLe (suc s′) s)
+    where
+      go : Dec (s < s′) → Dec (s′ < s) → s′ ≡ s
+      go (yes l) k = absurd (omega (arith, B .inside s′ l (o .0 .below), B .level, o .0 .level))
+      go (no l) (yes k) = absurd (omega (arith, o .0 .over s k (omega (arith, B .s<p, B .p≤e)), B .level, o .0 .level))
+      go (no l) (no k) = omega arith
+
+  -- at the end of the task the walker says parallel
+  by-end : (p q s e : ℕ) → Rooted ev q → By ev p q s e → par ev p (suc e) ≡ true
+  unfolding moveAt
+  by-end p q s e rooted B = par-step ev p e (B .p≤e) ∙ go (walk ev p e .height) (walk ev p e .par) (low (decLe (suc (w .low)) e))
+    where
+      w : Walked p e (walk ev p e .height) (walk ev p e .par)
+      w = walked p e (B .p≤e) (λ m l. rooted m (omega (arith, B .e<q)))
+
+      low : Dec (w .low < e) → walk ev p e .height ≡ 0
+      low (yes l) = omega (arith, B .inside (w .low) (omega (arith, B .s<p, w .p≤low)) l, w .at-low, w .under, B .level)
+      low (no l) = let z : w .low ≡ e = omega (arith, w .low≤q) in omega (arith, rw z at (w .at-low), w .under)
+
+      head : headOr (opened ev e) 0 ≡ s
+      head = opener p q s e rooted B (opened ev e) (all-opened e (λ m l. rooted m (omega (arith, B .e<q))))
+
+      go : (h : ℕ) (b : Bool) → h ≡ 0 → moved (moveAt ev e) h b .par ≡ true
+      go h b z = rw (z, B .at-e, head, B .at-s)
+
+  -- one event later it still does
+  by-step : (s n h : ℕ) (b : Bool) (x : Event) (k : Bool) → ev n ≡ x → b ≡ true → depthAt ev s ≤ depthAt ev n
+      → (h ≡ 0 → depthAt ev n ≡ depthAt ev s) → (depthAt ev n ≡ depthAt ev s → (ev n ≢ Sync) × (ev n ≢ End))
+      → (moved (moveOf x k) h b .par ≡ true) × (depthAt ev s ≤ depthAt ev (suc n))
+  by-step s n h b Spawn k e t d z f = (t, omega (arith, depth-at ev n Spawn e))
+  by-step s n zero b End k e t d z f = absurd (f (z refl) .1 e)
+  by-step s n (suc h) b End k e t d z f = (t, go (decLe (suc (depthAt ev s)) (depthAt ev n)))
+    where
+      go : Dec (depthAt ev s < depthAt ev n) → depthAt ev s ≤ depthAt ev (suc n)
+      go (yes l) = omega (arith, depth-at ev n End e)
+      go (no l) = absurd (f (omega arith) .1 e)
+  by-step s n zero b Sync k e t d z f = absurd (f (z refl) .0 e)
+  by-step s n (suc h) b Sync k e t d z f = (t, omega (arith, depth-at ev n Sync e))
+  by-step s n h b (Read r) k e t d z f = (t, omega (arith, depth-at ev n (Read r) e))
+  by-step s n h b (Write r) k e t d z f = (t, omega (arith, depth-at ev n (Write r) e))
+
+  by-later : (p q s e : ℕ) → Rooted ev q → By ev p q s e → (n : ℕ) → suc e ≤ n → n ≤ q
+      → (par ev p n ≡ true) × (depthAt ev s ≤ depthAt ev n)
+  unfolding moveAt
+  by-later p q s e rooted B =
+      from (λ (n : ℕ). n ≤ q → (par ev p n ≡ true) × (depthAt ev s ≤ depthAt ev n)) (suc e)
+      (λ l. (by-end p q s e rooted B, omega (arith, depth-at ev e End (B .at-e), B .level)))
+      (λ n en ih nq. next n en nq (ih (omega arith)))
+    where
+      next : (n : ℕ) → e < n → n < q → (par ev p n ≡ true) × (depthAt ev s ≤ depthAt ev n)
+          → (par ev p (suc n) ≡ true) × (depthAt ev s ≤ depthAt ev (suc n))
+      next n en nq ih =
+          let pn : p ≤ n = omega (arith, B .p≤e) in
+          let w = walked p n pn (λ m l. rooted m (omega arith)) in
+          let r = by-step s n (walk ev p n .height) (walk ev p n .par) (ev n) (spawned ev n) refl (ih .0) (ih .1)
+          (λ z. omega (arith, w .above (suc e) (omega (arith, B .p≤e)) en, w .under, ih .1, depth-at ev e End (B .at-e), B .level))
+          (λ z. B .quiet n en nq z) in
+          (par-step ev p n pn ∙ r .0, r .1)
+
+  -- from the definition to the walk
+  pub walk-complete : (p q : ℕ) → Rooted ev q → Parallel ev p q → par ev p q ≡ true
+  walk-complete p q rooted P = (by-later p q (P .0) (P .1) rooted (P .2) q (P .2 .e<q) (omega arith)) .0
+
+  -- the walk decides the definition
+  pub walk-is : (p q : ℕ) → p ≤ q → Rooted ev q → Parallel ev p q ↔ (par ev p q ≡ true)
+  walk-is p q pq rooted = (walk-complete p q rooted, walk-sound p q pq rooted)
