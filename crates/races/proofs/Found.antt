@@ -17,15 +17,14 @@ use Rattle.relation.specs.Walk.{par}
 use Rattle.races.specs.Search.{orHere, least}
 use Rattle.races.specs.Race.{Access, other, read, write, accessOf, recordOf, conflict, races, raced, secondIn}
 use Rattle.races.specs.Places.{isRead, isWrite, parTo, readsOf, writesOf, lastWrite, standing, writeHit, readHit, firstOf, found}
-use Rattle.races.specs.Verdict.{Verdict, clean, race, verdict, verdictOf, stopAt}
 use Rattle.races.proofs.Search.{below, not-true, true-together, any-finds, any-has, Least, least-is, least-only}
 use Rattle.races.proofs.Places.{both, holds-some, is-write, last-speaks, standing-speaks, last-write-is, standing-read-is}
 
-pub both-left : (a b : Bool) → (a && b) ≡ true → a ≡ true
+both-left : (a b : Bool) → (a && b) ≡ true → a ≡ true
 both-left true b t = refl
 both-left false b t = t
 
-pub both-right : (a b : Bool) → (a && b) ≡ true → b ≡ true
+both-right : (a b : Bool) → (a && b) ≡ true → b ≡ true
 both-right true b t = t
 both-right false b t = absurd (false≢true t)
 
@@ -119,14 +118,19 @@ module _ (ev : ℕ → Event) where
       let k = standing-read-is ev (recordOf (ev j)) j (h .0) (h .1) in
       raced-by (h .0) j (k .0) (races-is (h .0) j (rw (k .1)) (rw (k .1) c) (h .2))
 
+  pub found-parts : (j : ℕ) → found ev j ≡ true
+      → ((conflict write (accessOf (ev j)) ≡ true) × (writeHit ev j ≡ true))
+          ⊎ ((conflict read (accessOf (ev j)) ≡ true) × (readHit ev j ≡ true))
+  unfolding found
+  found-parts j t =
+      let a = accessOf (ev j) in
+      ⊎-elim (λ u. inl (both-left (conflict write a) (writeHit ev j) u, both-right (conflict write a) (writeHit ev j) u))
+      (λ u. inr (both-left (conflict read a) (readHit ev j) u, both-right (conflict read a) (readHit ev j) u))
+      (either (conflict write a && writeHit ev j) (conflict read a && readHit ev j) t)
+
   -- what the places find is a race, whatever came before
   pub found-raced : (j : ℕ) → found ev j ≡ true → raced ev j ≡ true
-  unfolding found
-  found-raced j t =
-      let a = accessOf (ev j) in
-      ⊎-elim (λ u. hit-write j (both-left (conflict write a) (writeHit ev j) u) (both-right (conflict write a) (writeHit ev j) u))
-      (λ u. hit-read j (both-left (conflict read a) (readHit ev j) u) (both-right (conflict read a) (readHit ev j) u))
-      (either (conflict write a && writeHit ev j) (conflict read a && readHit ev j) t)
+  found-raced j t = ⊎-elim (λ u. hit-write j (u .0) (u .1)) (λ u. hit-read j (u .0) (u .1)) (found-parts j t)
 
   -- two places are enough
   pub places-enough : (j : ℕ) → Quiet j → raced ev j ≡ found ev j

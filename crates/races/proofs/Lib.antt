@@ -1,4 +1,6 @@
 pub mod Search
 pub mod Places
 pub mod Found
+pub mod Verdict
+pub mod Named
 pub mod Cases

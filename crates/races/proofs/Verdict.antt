@@ -1,0 +1,52 @@
+-- The verdict of a scan: what the two places say of an event is by its kind one test or two, a scan that has found nothing is clean,
+-- and one that finds something stops there and names the pair from the two places. Assumes nothing.
+use mathlib.Core.Path.{_≡_, refl, _∙_}
+use mathlib.Core.Bool.{Bool, true, false, _||_, or-false}
+use mathlib.Core.Option.{Option, none, some}
+use Prim.Native.Nat.{ℕ, _<_}
+use Rattle.jobfile.specs.declared.coding.Event.{Event}
+use Rattle.jobfile.specs.declared.coding.Event.the-variants.{Read, Write}
+use Rattle.relation.specs.Walk.{par}
+use Rattle.races.specs.Race.{other, accessOf, recordOf, secondIn}
+use Rattle.races.specs.Places.{holds, parTo, lastWrite, standing, writeHit, firstOf, found}
+use Rattle.races.specs.Verdict.{Verdict, clean, race, verdict, stopAt}
+use Rattle.races.proofs.Found.{race-here}
+
+module _ (ev : ℕ → Event) where
+  pub found-other : (j : ℕ) → accessOf (ev j) ≡ other → found ev j ≡ false
+  unfolding found
+  found-other j e = rw e
+
+  pub found-read : (r j : ℕ) → ev j ≡ Read r → found ev j ≡ holds (parTo ev j) (lastWrite ev r j)
+  unfolding found
+  found-read r j e = rw e (or-false (holds (parTo ev j) (lastWrite ev r j)))
+
+  pub found-write : (r j : ℕ) → ev j ≡ Write r
+      → found ev j ≡ (holds (parTo ev j) (lastWrite ev r j) || holds (parTo ev j) (standing ev r j))
+  unfolding found
+  found-write r j e = rw e
+
+  -- the first is the last write if that is parallel
+  pub first-is-write : (j w : ℕ) → lastWrite ev (recordOf (ev j)) j ≡ some w → par ev w j ≡ true → firstOf ev j ≡ w
+  unfolding firstOf
+  first-is-write j w e t = rw (e, t)
+
+  -- otherwise the standing read
+  pub first-is-read : (j s : ℕ) → writeHit ev j ≡ false → standing ev (recordOf (ev j)) j ≡ some s → firstOf ev j ≡ s
+  unfolding firstOf
+  first-is-read j s f e = rw (f, e)
+
+  -- no second: clean, and all k events are taken
+  pub clean-all : (k : ℕ) → secondIn ev k ≡ none → (verdict ev k ≡ clean) × (stopAt ev k ≡ k)
+  unfolding verdict stopAt
+  clean-all k e = (rw e, rw e)
+
+  -- a second: the race named with it, and the events before it are taken
+  pub race-at : (k j : ℕ) → secondIn ev k ≡ some j → (verdict ev k ≡ race (firstOf ev j) j (recordOf (ev j))) × (stopAt ev k ≡ j)
+  unfolding verdict stopAt
+  race-at k j e = (rw e, rw e)
+
+  -- a scan that finds its first race at event i
+  pub race-stops : (i : ℕ) → secondIn ev i ≡ none → found ev i ≡ true → (k : ℕ) → i < k
+      → (verdict ev k ≡ race (firstOf ev i) i (recordOf (ev i))) × (stopAt ev k ≡ i)
+  race-stops i e f k l = race-at k i (race-here ev i e f k l)
