@@ -120,7 +120,7 @@ module _ (ev : ℕ → Event) where
 
   pub found-parts : (j : ℕ) → found ev j ≡ true
       → ((conflict write (accessOf (ev j)) ≡ true) × (writeHit ev j ≡ true))
-          ⊎ ((conflict read (accessOf (ev j)) ≡ true) × (readHit ev j ≡ true))
+      ⊎ ((conflict read (accessOf (ev j)) ≡ true) × (readHit ev j ≡ true))
   unfolding found
   found-parts j t =
       let a = accessOf (ev j) in

@@ -14,7 +14,7 @@ use Rattle.relation.proofs.Agree.{walk-sound, walk-complete}
 use Rattle.relation.proofs.Laws.{rooted-less}
 use Rattle.races.specs.Race.{Access, other, read, write, accessOf, recordOf, conflict, Race, races, raced, secondIn}
 use Rattle.races.specs.Places.{stood, parTo, lastWrite, standing, writeHit, readHit, firstOf, found}
-use Rattle.races.specs.Verdict.{Verdict, clean, race, verdictOf, verdict, Named}
+use Rattle.races.specs.Verdict.{Verdict, clean, race, verdictOf, verdict, First, Named}
 use Rattle.races.proofs.Search.{not-true, Least, least-is, least-only}
 use Rattle.races.proofs.Places.{holds-some, last-write-is, standing-read-is, read-takes}
 use Rattle.races.proofs.Found.{races-is, races-parts, raced-by, raced-finds, Quiet, found-parts, places-enough, none-quiet}
@@ -37,9 +37,10 @@ module _ (ev : ℕ → Event) where
 
   -- trying every pair decides whether an event races with any earlier one
   pub raced-is : (j : ℕ) → Rooted ev j → ((m : ℕ) × Race ev m j) ↔ (raced ev j ≡ true)
-  raced-is j root =
-      (λ R. raced-by ev (R .0) j (R .1 .earlier) (race-races (R .0) j root (R .1)),
-      λ t. let w = raced-finds ev j t in (w .0, races-race (w .0) j root (w .1) (w .2)))
+  raced-is j root = (
+    λ R. raced-by ev (R .0) j (R .1 .earlier) (race-races (R .0) j root (R .1)),
+    λ t. let w = raced-finds ev j t in (w .0, races-race (w .0) j root (w .1) (w .2)),
+  )
 
   -- there is no race with its second before j
   abbrev pub RaceFree : ℕ → Type 0
@@ -82,17 +83,14 @@ module _ (ev : ℕ → Event) where
 
     -- what is left to say of an event i that is to be the first
     named : (i : ℕ) → firstOf ev j ≡ i → i < j → recordOf (ev i) ≡ recordOf (ev j) → conflict (accessOf (ev i)) (accessOf (ev j)) ≡ true
-        → par ev i j ≡ true
-        → ((lastWrite ev (recordOf (ev j)) j ≡ some i) × Parallel ev i j)
-            ⊎ (((w : ℕ) → lastWrite ev (recordOf (ev j)) j ≡ some w → ¬ Parallel ev w j) × (standing ev (recordOf (ev j)) j ≡ some i))
-        → Named ev k (firstOf ev j) j (recordOf (ev j))
+        → par ev i j ≡ true → First ev i j (recordOf (ev j)) → Named ev k (firstOf ev j) j (recordOf (ev j))
     named i e ij same clash t first =
         rw e (record {
-            within = l .0;
-            is-race = record { earlier = ij; one-record = same; clash = clash; parallel = walk-sound ev i j (omega arith) rooted-j t };
-            on-record = refl;
-            earliest = quiet-free j rooted-j (l .2);
-            first = first
+          within = l .0;
+          is-race = record { earlier = ij; one-record = same; clash = clash; parallel = walk-sound ev i j (omega arith) rooted-j t };
+          on-record = refl;
+          earliest = quiet-free j rooted-j (l .2);
+          first = first;
         })
 
     named-write : conflict write (accessOf (ev j)) ≡ true → writeHit ev j ≡ true → Named ev k (firstOf ev j) j (recordOf (ev j))
@@ -135,10 +133,7 @@ module _ (ev : ℕ → Event) where
       least-only (raced ev) k (secondIn ev k) (some j) (least-is (raced ev) k)
       (N .within, raced-is j rj .0 (i, N .is-race), free-quiet j rj (N .earliest))
 
-  named-first : (i j : ℕ) → Rooted ev j
-      → ((lastWrite ev (recordOf (ev j)) j ≡ some i) × Parallel ev i j)
-          ⊎ (((w : ℕ) → lastWrite ev (recordOf (ev j)) j ≡ some w → ¬ Parallel ev w j) × (standing ev (recordOf (ev j)) j ≡ some i))
-      → firstOf ev j ≡ i
+  named-first : (i j : ℕ) → Rooted ev j → First ev i j (recordOf (ev j)) → firstOf ev j ≡ i
   named-first i j root (inl u) = first-is-write ev j i (u .0) (walk-complete ev i j root (u .1))
   named-first i j root (inr u) = first-is-read ev j i (not-true (writeHit ev j) none-hit) (u .1)
     where
@@ -172,6 +167,7 @@ module _ (ev : ℕ → Event) where
   -- the verdict is clean exactly if there is no race
   pub verdict-clean : (k : ℕ) → Rooted ev k → (verdict ev k ≡ clean) ↔ RaceFree k
   unfolding verdict
-  verdict-clean k root =
-      (λ e. quiet-free k root (none-quiet ev k (clean-none (secondIn ev k) e)),
-      λ free. clean-all ev k (least-only (raced ev) k (secondIn ev k) none (least-is (raced ev) k) (free-quiet k root free)) .0)
+  verdict-clean k root = (
+    λ e. quiet-free k root (none-quiet ev k (clean-none (secondIn ev k) e)),
+    λ free. clean-all ev k (least-only (raced ev) k (secondIn ev k) none (least-is (raced ev) k) (free-quiet k root free)) .0,
+  )

@@ -25,6 +25,13 @@ module _ (ev : ℕ → Event) where
   unfoldable pub stopAt : ℕ → ℕ
   stopAt k = Option·getD (secondIn ev k) k
 
+  -- "The first is the last earlier write of the record if that is parallel to the second; otherwise the standing read.": event i is
+  -- the first that goes with the second j on record r
+  abbrev pub First : ℕ → ℕ → ℕ → Type 0
+  First i j r =
+      ((lastWrite ev r j ≡ some i) × Parallel ev i j)
+      ⊎ (((w : ℕ) → lastWrite ev r j ≡ some w → ¬ Parallel ev w j) × (standing ev r j ≡ some i))
+
   -- "Which is named", by the definition alone: event j is the second and event i the first, on record r, within the first k events
   pub record Named (k i j r : ℕ) : Type 0 where
     pub within : j < k
@@ -32,6 +39,4 @@ module _ (ev : ℕ → Event) where
     pub on-record : recordOf (ev j) ≡ r
     -- "The second is the earliest access that races with any earlier one."
     pub earliest : (m n : ℕ) → n < j → ¬ Race ev m n
-    -- "The first is the last earlier write of the record if that is parallel to the second; otherwise the standing read."
-    pub first : ((lastWrite ev r j ≡ some i) × Parallel ev i j)
-        ⊎ (((w : ℕ) → lastWrite ev r j ≡ some w → ¬ Parallel ev w j) × (standing ev r j ≡ some i))
+    pub first : First i j r
