@@ -3,11 +3,11 @@
 -- While nothing has raced, the writes of a record are before one another, so that the last one speaks for all of them; the standing
 -- read speaks for all reads whether or not anything has raced. So a scan that asks the two places alone, and stops at what it finds
 -- first, stops at the earliest access that races with any earlier one. Assumes nothing.
-use mathlib.Core.Path.{_≡_, refl, sym, _∙_}
+use mathlib.Core.Path.{_≡_, refl, sym, ap, _∙_}
 use mathlib.Core.Logic.{_⊎_, inl, inr, ⊎-elim}
 use mathlib.Core.Bool.{Bool, true, false, cond, false≢true, _&&_, _||_, or-false, or-true}
 use mathlib.Core.Option.{Option, none, some}
-use Prim.Native.Nat.{ℕ, suc, _<_}
+use Prim.Native.Nat.{ℕ, zero, suc, _<_}
 use native.Mathlib.Omega.{arith}
 use lib.Dec.{eqb}
 use borrow.Author.Tests.{eqb-true, eq-eqb}
@@ -150,6 +150,16 @@ module _ (ev : ℕ → Event) where
   -- found, so this is the second, however many more events there are
   pub race-here : (i : ℕ) → secondIn ev i ≡ none → found ev i ≡ true → (k : ℕ) → i < k → secondIn ev k ≡ some i
   race-here i e f k l = least-only (raced ev) k (secondIn ev k) (some i) (least-is (raced ev) k) (l, found-raced i f, none-quiet i e)
+
+  -- so the least event that the places find is the second
+  second-step : (k : ℕ) (o : Option ℕ) → secondIn ev k ≡ o → orHere o (raced ev k) k ≡ orHere o (found ev k) k
+  second-step k none e = rw (places-enough k (none-quiet k e))
+  second-step k (some j) e = refl
+
+  pub second-found : (k : ℕ) → secondIn ev k ≡ least (found ev) k
+  unfolding least
+  second-found zero = refl
+  second-found (suc k) = second-step k (secondIn ev k) refl ∙ ap (λ (o : Option ℕ). orHere o (found ev k) k) (second-found k)
 
   -- before any event there is no second
   pub none-yet : secondIn ev 0 ≡ none
