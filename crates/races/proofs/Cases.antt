@@ -1,4 +1,4 @@
--- 01's starred small jobs, one list, proved together by computation: the verdict and the strands begun. Assumes nothing.
+-- The starred small jobs, one list, proved together by computation: the verdict and the strands begun. Assumes nothing.
 use mathlib.Core.Path.{_≡_, refl}
 use mathlib.Core.List.{List, [], _∷_, map}
 use Prim.Native.Nat.{ℕ}

@@ -5,10 +5,9 @@
 -- first, stops at the earliest access that races with any earlier one. Assumes nothing.
 use mathlib.Core.Path.{_≡_, refl, sym, ap, _∙_}
 use mathlib.Core.Logic.{_⊎_, inl, inr, ⊎-elim}
-use mathlib.Core.Bool.{Bool, true, false, cond, false≢true, _&&_, _||_, or-false, or-true}
+use mathlib.Core.Bool.{Bool, true, false, false≢true, _&&_, _||_, or-true}
 use mathlib.Core.Option.{Option, none, some}
 use Prim.Native.Nat.{ℕ, zero, suc, _<_}
-use native.Mathlib.Omega.{arith}
 use lib.Dec.{eqb}
 use borrow.Author.Tests.{eqb-true, eq-eqb}
 use Rattle.jobfile.specs.declared.coding.Event.{Event}
@@ -16,7 +15,7 @@ use Rattle.jobfile.specs.declared.coding.Event.the-variants.{Read, Write}
 use Rattle.relation.specs.Walk.{par}
 use Rattle.races.specs.Search.{orHere, least}
 use Rattle.races.specs.Race.{Access, other, read, write, accessOf, recordOf, conflict, races, raced, secondIn}
-use Rattle.races.specs.Places.{isRead, isWrite, parTo, readsOf, writesOf, lastWrite, standing, writeHit, readHit, firstOf, found}
+use Rattle.races.specs.Places.{parTo, readsOf, writesOf, lastWrite, standing, writeHit, readHit, found}
 use Rattle.races.proofs.Search.{below, not-true, true-together, any-finds, any-has, Least, least-is, least-only}
 use Rattle.races.proofs.Places.{both, holds-some, is-write, last-speaks, standing-speaks, last-write-is, standing-read-is}
 
@@ -106,17 +105,22 @@ module _ (ev : ℕ → Event) where
       let R = races-parts (w .0) j (w .2) in
       places-speak j (w .0) quiet (w .1) R (accessOf (ev (w .0))) (accessOf (ev j)) refl (R .clash)
 
+  -- an access that a place holds and that is parallel to j
+  raced-with : (j m : ℕ) (x : Event) → (m < j) × (ev m ≡ x) → recordOf x ≡ recordOf (ev j) → conflict (accessOf x) (accessOf (ev j)) ≡ true
+      → par ev m j ≡ true → raced ev j ≡ true
+  raced-with j m x k same c t = raced-by m j (k .0) (races-is m j (rw (k .1) same) (rw (k .1) c) t)
+
   hit-write : (j : ℕ) → conflict write (accessOf (ev j)) ≡ true → writeHit ev j ≡ true → raced ev j ≡ true
   hit-write j c t =
-      let h = holds-some (parTo ev j) (lastWrite ev (recordOf (ev j)) j) t in
-      let k = last-write-is ev (recordOf (ev j)) j (h .0) (h .1) in
-      raced-by (h .0) j (k .0) (races-is (h .0) j (rw (k .1)) (rw (k .1) c) (h .2))
+      let r = recordOf (ev j) in
+      let h = holds-some (parTo ev j) (lastWrite ev r j) t in
+      raced-with j (h .0) (Write r) (last-write-is ev r j (h .0) (h .1)) refl c (h .2)
 
   hit-read : (j : ℕ) → conflict read (accessOf (ev j)) ≡ true → readHit ev j ≡ true → raced ev j ≡ true
   hit-read j c t =
-      let h = holds-some (parTo ev j) (standing ev (recordOf (ev j)) j) t in
-      let k = standing-read-is ev (recordOf (ev j)) j (h .0) (h .1) in
-      raced-by (h .0) j (k .0) (races-is (h .0) j (rw (k .1)) (rw (k .1) c) (h .2))
+      let r = recordOf (ev j) in
+      let h = holds-some (parTo ev j) (standing ev r j) t in
+      raced-with j (h .0) (Read r) (standing-read-is ev r j (h .0) (h .1)) refl c (h .2)
 
   pub found-parts : (j : ℕ) → found ev j ≡ true
       → ((conflict write (accessOf (ev j)) ≡ true) × (writeHit ev j ≡ true))

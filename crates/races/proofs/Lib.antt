@@ -4,3 +4,4 @@ pub mod Found
 pub mod Verdict
 pub mod Named
 pub mod Cases
+pub mod Prefix

@@ -1,10 +1,10 @@
 -- The verdict in the words of the definition: races by Parallel, the pair that is named, and that no other pair fits.
 -- Assumes nothing.
 use mathlib.Core.Path.{_≡_, refl, sym, _∙_}
-use mathlib.Core.Logic.{_⊎_, inl, inr, ⊎-elim, _↔_}
-use mathlib.Core.Bool.{Bool, true, false, false≢true, _&&_, _||_}
+use mathlib.Core.Logic.{_⊎_, inl, inr, _↔_}
+use mathlib.Core.Bool.{Bool, true, false, false≢true}
 use mathlib.Core.Option.{Option, none, some}
-use Prim.Native.Nat.{ℕ, suc, _≤_, _<_}
+use Prim.Native.Nat.{ℕ, suc, _<_}
 use native.Mathlib.Omega.{arith}
 use Rattle.jobfile.specs.declared.coding.Event.{Event}
 use Rattle.jobfile.specs.declared.coding.Event.the-variants.{Read}
@@ -13,8 +13,8 @@ use Rattle.relation.specs.Walk.{par}
 use Rattle.relation.proofs.Agree.{walk-sound, walk-complete}
 use Rattle.relation.proofs.Laws.{rooted-less}
 use Rattle.races.specs.Race.{Access, other, read, write, accessOf, recordOf, conflict, Race, races, raced, secondIn}
-use Rattle.races.specs.Places.{stood, parTo, lastWrite, standing, writeHit, readHit, firstOf, found}
-use Rattle.races.specs.Verdict.{Verdict, clean, race, verdictOf, verdict, First, Named}
+use Rattle.races.specs.Places.{parTo, lastWrite, standing, writeHit, readHit, firstOf, found}
+use Rattle.races.specs.Verdict.{clean, race, verdictOf, verdict, First, Named}
 use Rattle.races.proofs.Search.{not-true, Least, least-is, least-only}
 use Rattle.races.proofs.Places.{holds-some, last-write-is, standing-read-is, read-takes}
 use Rattle.races.proofs.Found.{races-is, races-parts, raced-by, raced-finds, Quiet, found-parts, places-enough, none-quiet}

@@ -14,7 +14,7 @@ use Rattle.jobfile.specs.declared.coding.Event.the-variants.{Spawn, End, Sync, 
 use Rattle.relation.specs.Walk.{Walker, par}
 use Rattle.relation.proofs.Walk.{walk-start, par-trans}
 use Rattle.races.specs.Search.{last}
-use Rattle.races.specs.Race.{Access, other, read, write, accessOf, recordOf}
+use Rattle.races.specs.Race.{other, accessOf, recordOf}
 use Rattle.races.specs.Places.{isRead, isWrite, holds, stood, parTo, standingOf, readsOf, writesOf, lastWrite, standing}
 use Rattle.races.proofs.Search.{below, Last, last-is}
 

@@ -1,15 +1,15 @@
 -- The verdict of a scan: what the two places say of an event is by its kind one test or two, a scan that has found nothing is clean,
 -- and one that finds something stops there and names the pair from the two places. Assumes nothing.
-use mathlib.Core.Path.{_≡_, refl, _∙_}
-use mathlib.Core.Bool.{Bool, true, false, _||_, or-false}
-use mathlib.Core.Option.{Option, none, some}
+use mathlib.Core.Path.{_≡_, _∙_}
+use mathlib.Core.Bool.{true, false, _||_, or-false}
+use mathlib.Core.Option.{none, some}
 use Prim.Native.Nat.{ℕ, suc, _<_}
 use Rattle.jobfile.specs.declared.coding.Event.{Event}
 use Rattle.jobfile.specs.declared.coding.Event.the-variants.{Read, Write}
 use Rattle.relation.specs.Walk.{par}
 use Rattle.races.specs.Race.{other, write, accessOf, recordOf, conflict, secondIn}
 use Rattle.races.specs.Places.{holds, parTo, lastWrite, standing, writeHit, firstOf, found}
-use Rattle.races.specs.Verdict.{Verdict, clean, race, verdict, stopAt}
+use Rattle.races.specs.Verdict.{clean, race, verdict, stopAt}
 use Rattle.races.proofs.Found.{clean-more, race-here}
 
 module _ (ev : ℕ → Event) where

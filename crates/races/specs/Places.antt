@@ -4,7 +4,6 @@ use mathlib.Core.Bool.{Bool, true, false, cond, _&&_, _||_}
 use mathlib.Core.Option.{Option, none, some, Option·getD}
 use lib.Dec.{eqb}
 use Rattle.jobfile.specs.declared.coding.Event.{Event}
-use Rattle.jobfile.specs.declared.coding.Event.the-variants.{Spawn, End, Sync, Read, Write}
 use Rattle.relation.specs.Walk.{par}
 use Rattle.races.specs.Search.{last}
 use Rattle.races.specs.Race.{Access, other, read, write, accessOf, recordOf, conflict}
@@ -40,6 +39,7 @@ module _ (ev : ℕ → Event) where
   standingOf class zero = none
   standingOf class (suc n) = cond (class n) (stood (parTo n) n (standingOf class n)) (standingOf class n)
 
+  -- event n is a read, or a write, of record r
   abbrev pub readsOf : ℕ → ℕ → Bool
   readsOf r n = isRead (accessOf (ev n)) && eqb (recordOf (ev n)) r
 

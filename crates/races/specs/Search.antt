@@ -1,6 +1,6 @@
 -- Searches below a number, for what a test says of each number.
 use Prim.Native.Nat.{ℕ, zero, suc}
-use mathlib.Core.Bool.{Bool, true, false, cond, _||_}
+use mathlib.Core.Bool.{Bool, false, cond, _||_}
 use mathlib.Core.Option.{Option, none, some}
 
 -- some number below n passes

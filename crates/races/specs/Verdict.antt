@@ -14,6 +14,7 @@ pub data Verdict : Type 0 where
   race : ℕ → ℕ → ℕ → Verdict
 
 module _ (ev : ℕ → Event) where
+  -- by the second, if there is one
   abbrev pub verdictOf : Option ℕ → Verdict
   verdictOf none = clean
   verdictOf (some j) = race (firstOf ev j) j (recordOf (ev j))
