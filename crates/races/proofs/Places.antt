@@ -121,17 +121,12 @@ module _ (ev : ℕ → Event) where
         → m < j → class m ≡ true → par ev m j ≡ true → holds (parTo ev j) (last class j) ≡ true
     last-speaks j m = last-hit j m (last class j) (last-is class j)
 
-    below-some : (n : ℕ) (o : Option ℕ) (s : ℕ) → o ≡ some s → Standing n o → (s < n) × (class s ≡ true)
-    below-some n o s e l = let k : Standing n (some s) = rw e at l in (k .0, k .1)
-
+    -- both hold an earlier event of the class
     pub standing-below : (n s : ℕ) → standingOf ev class n ≡ some s → (s < n) × (class s ≡ true)
-    standing-below n s e = below-some n (standingOf ev class n) s e (standing-is n)
-
-    last-some : (n : ℕ) (o : Option ℕ) (w : ℕ) → o ≡ some w → Last class n o → (w < n) × (class w ≡ true)
-    last-some n o w e l = let k : Last class n (some w) = rw e at l in (k .0, k .1)
+    standing-below n s e = let k : Standing n (some s) = rw e at (standing-is n) in (k .0, k .1)
 
     pub last-below : (n w : ℕ) → last class n ≡ some w → (w < n) × (class w ≡ true)
-    last-below n w e = last-some n (last class n) w e (last-is class n)
+    last-below n w e = let k : Last class n (some w) = rw e at (last-is class n) in (k .0, k .1)
 
   -- the places hold earlier accesses of their kind
   pub last-write-is : (r n w : ℕ) → lastWrite ev r n ≡ some w → (w < n) × (ev w ≡ Write r)
@@ -139,6 +134,18 @@ module _ (ev : ℕ → Event) where
 
   pub standing-read-is : (r n s : ℕ) → standing ev r n ≡ some s → (s < n) × (ev s ≡ Read r)
   standing-read-is r n s e = let k = standing-below (readsOf ev r) n s e in (k .0, is-read (ev s) r (k .1))
+
+  -- no write of the record comes after the last one, and where there is none the record has not been written
+  pub last-write-latest : (r n w m : ℕ) → lastWrite ev r n ≡ some w → m < n → ev m ≡ Write r → m ≤ w
+  last-write-latest r n w m e mn x =
+      let l : Last (writesOf ev r) n (some w) = rw e at (last-is (writesOf ev r) n) in
+      l .2 m mn (rw (x, eq-eqb r r refl))
+
+  pub no-last-write : (r n m : ℕ) → lastWrite ev r n ≡ none → m < n → ev m ≢ Write r
+  no-last-write r n m e mn x =
+      let l : Last (writesOf ev r) n none = rw e at (last-is (writesOf ev r) n) in
+      let t : writesOf ev r m ≡ true = rw (x, eq-eqb r r refl) in
+      false≢true (sym (l m mn) ∙ t)
 
   -- before any event no place holds anything
   pub no-write-yet : (r : ℕ) → lastWrite ev r 0 ≡ none
