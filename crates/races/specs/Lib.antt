@@ -1,0 +1,4 @@
+pub mod Search
+pub mod Race
+pub mod Places
+pub mod Verdict

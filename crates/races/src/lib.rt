@@ -1,0 +1,1 @@
+// Races: a theory with no code of its own.
