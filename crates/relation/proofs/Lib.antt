@@ -1,3 +1,4 @@
 pub mod Walk
 pub mod Depth
 pub mod Agree
+pub mod Strand

@@ -1,2 +1,3 @@
 pub mod Parallel
+pub mod Strand
 pub mod Walk
