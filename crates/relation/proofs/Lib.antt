@@ -2,3 +2,5 @@ pub mod Walk
 pub mod Depth
 pub mod Agree
 pub mod Strand
+pub mod Laws
+pub mod Prefix
