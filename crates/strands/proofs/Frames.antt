@@ -36,7 +36,7 @@ last-append l r none none e f = rw (e, f)
 last-append l r (some x) none e f = rw f (rw append-nil e)
 last-append l r a (some y) e f = ends-append l r y f
 
-no-cons : (x : ℕ) (l : List ℕ) → (x ∷ l) ≢ []
+pub no-cons : (x : ℕ) (l : List ℕ) → (x ∷ l) ≢ []
 no-cons x l e = let y : _≡_ {A = ℕ} 0 1 = cc in omega arith
 
 no-end : (x : ℕ) → ¬ Ends [] x

@@ -1,3 +1,4 @@
 pub mod Lists
 pub mod Cells
 pub mod Frames
+pub mod Sides
