@@ -2,3 +2,4 @@ pub mod Lists
 pub mod Cells
 pub mod Frames
 pub mod Sides
+pub mod Hebrew
