@@ -3,3 +3,5 @@ pub mod Cells
 pub mod Frames
 pub mod Sides
 pub mod Hebrew
+pub mod Labels
+pub mod English
