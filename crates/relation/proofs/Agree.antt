@@ -90,6 +90,10 @@ module _ (ev : ℕ → Event) where
       rw (depth-at ev n (ev n) refl)
       (all-next n (ev n) (opened ev n) refl (rooted (suc n) (omega arith)) (all-opened n (λ m l. rooted m (omega arith))))
 
+  -- where no event has opened a task that is still open, only the root is open
+  pub only-root : (n : ℕ) → Rooted ev n → opened ev n ≡ [] → depthAt ev n ≡ 1
+  only-root n rooted e = rw e at (all-opened n rooted)
+
   -- what holds of a walker from p at q: `level` is the depth of the innermost task that is still open and contained p, and `low` a
   -- position where that task was current
   record Walked (p q h : ℕ) (b : Bool) : Type 0 where

@@ -4,3 +4,5 @@ pub mod Agree
 pub mod Strand
 pub mod Laws
 pub mod Prefix
+pub mod Spawned
+pub mod Moves

@@ -1,3 +1,4 @@
+pub mod Between
 pub mod Parallel
 pub mod Strand
 pub mod Walk

@@ -1,1 +1,4 @@
 // Parallel and before.
+mod between;
+
+pub use between::event_at;

@@ -1,0 +1,86 @@
+// The walk over the events between two, which decides whether the first is parallel to the second.
+ghost use mathlib.Core.Path.{_≡_};
+ghost use mathlib.Core.Bool.{true};
+ghost use Prim.Native.Nat.{_+_, _*_, _≤_, _<_};
+ghost use lib.ListN.{length};
+ghost use Rattle.jobfile.specs.Trace.{eventAt};
+ghost use Rattle.relation.specs.Walk.{moveOf, move, par};
+ghost use Rattle.relation.specs.Between.{walkerOf, Walkable};
+use jobfile::Decoded;
+use jobfile::Event;
+use jobfile::decode;
+
+// How far the current task lies under the innermost open task that contained the start, and
+// whether the start is parallel to where the walk stands.
+pub struct Walker {
+    pub height: usize,
+    pub par: bool,
+}
+
+// Whether event p is parallel to event q. One pass over the events between them.
+// requires: q is an event of the part, and no end up to it closes the root.
+pub fn parallel(part: &[u8], p: usize, q: usize) -> bool
+    requires { ⌜ Walkable (now part) p q ⌝ }
+    ensures { λ r. ⌜ r ≡ par (eventAt (now (part .entry))) p q ⌝ }
+{
+    let mut w = Walker {
+        height: 0,
+        par: false,
+    };
+    let mut n = p;
+    while n < q {
+        w = moved(w, event_at(part, n));
+        n += 1;
+    }
+    w.par
+}
+
+// Event number n. Bytes that are refused stand for a sync; an accepted file shows none.
+// requires: the event's four bytes are there.
+pub fn event_at(part: &[u8], n: usize) -> Event
+    requires { ⌜ 4 * n + 4 ≤ length (now part) ⌝ }
+    ensures { λ r. ⌜ r ≡ eventAt (now (part .entry)) n ⌝ }
+{
+    match decode(part, 4 * n) {
+        Decoded::Event(e) => e,
+        Decoded::Refused(_) => Event::Sync,
+    }
+}
+
+// One event further. Every task that an end closes was spawned.
+// requires: the height is below the limit of events, so that it does not wrap.
+fn moved(w: Walker, e: Event) -> Walker
+    requires { ⌜ w .height < 1000000 ⌝ }
+    ensures { λ r. ⌜ walkerOf r ≡ move (moveOf e true) (walkerOf w) ⌝ }
+    ensures { λ r. ⌜ r .height ≤ w .height + 1 ⌝ }
+{
+    match e {
+        Event::Spawn => Walker {
+            height: w.height + 1,
+            par: w.par,
+        },
+        Event::End => {
+            if w.height == 0 {
+                return Walker {
+                    height: 0,
+                    par: true,
+                };
+            }
+            Walker {
+                height: w.height - 1,
+                par: w.par,
+            }
+        }
+        Event::Sync => {
+            if w.height == 0 {
+                return Walker {
+                    height: 0,
+                    par: false,
+                };
+            }
+            w
+        }
+        Event::Read(_) => w,
+        Event::Write(_) => w,
+    }
+}
