@@ -1,0 +1,4 @@
+pub mod Lists
+pub mod Respaced
+pub mod Links
+pub mod Labels
