@@ -20,10 +20,12 @@ use Rattle.relation.proofs.Agree.{walk-is}
 use Rattle.relation.proofs.Strand.{begun-some, begun-rises, birth-old, strand-stands}
 use Rattle.strands.specs.Frames.{fronts, backs, inOrder, frames}
 use Rattle.strands.specs.Orders.{hebrewAt}
-use Rattle.strands.proofs.Lists.{all-in, pairs-split, in-split}
+use Rattle.orders.proofs.Lists.{all-in}
+use Rattle.strands.proofs.Lists.{pairs-split, in-split}
 use Rattle.strands.proofs.Frames.{Ends, current-last}
 use Rattle.strands.proofs.Sides.{Says, fronts-before, backs-parallel}
-use Rattle.strands.proofs.Hebrew.{hebrew-frames, hebrew-strands}
+use Rattle.strands.proofs.Orders.{hebrew-strands}
+use Rattle.strands.proofs.Hebrew.{hebrew-frames}
 
 module _ (ev : ℕ → Event) where
   -- a strand that has begun keeps its beginning

@@ -1,19 +1,12 @@
 -- Laws of lists: what holds of all elements, of each two in order, and of an element put right behind another. Assumes nothing.
 use mathlib.Core.Path.{_≡_, refl, sym, ap, _∙_, subst}
-use mathlib.Core.Bool.{Bool, true, false, cond}
-use mathlib.Core.List.{List, [], _∷_, _++_, append-assoc, append-nil}
-use mathlib.Core.Logic.{_⊎_, inl, inr, ⊎-elim, _≢_, _↔_}
-use Prim.Native.Nat.{ℕ, zero, suc, _≤_, _<_}
-use native.Mathlib.Omega.{arith}
-use lib.ListN.{length}
-use lib.Dec.{eqb}
-use borrow.Author.Tests.{eq-eqb, ne-eqb, eqb-false}
+use mathlib.Core.List.{List, [], _∷_, _++_}
+use mathlib.Core.Logic.{_⊎_, inl, inr, ⊎-elim, _≢_}
+use Prim.Native.Nat.{ℕ}
+use borrow.Author.Tests.{eq-eqb, ne-eqb}
 use Rattle.orders.specs.Order.{insertAfter}
 use Rattle.orders.specs.Lists.{All, Pairs, In}
-
-pub all-map : (P Q : ℕ → Type 0) → ((x : ℕ) → P x → Q x) → (l : List ℕ) → All P l → All Q l
-all-map P Q f [] a = tt
-all-map P Q f (x ∷ xs) a = (f x (a .0), all-map P Q f xs (a .1))
+use Rattle.orders.proofs.Lists.{all-map, all-in}
 
 pub all-both : (P Q : ℕ → Type 0) (l : List ℕ) → All P l → All Q l → All (λ x. P x × Q x) l
 all-both P Q [] a b = tt
@@ -31,11 +24,6 @@ pub all-right : (P : ℕ → Type 0) (l r : List ℕ) → All P (l ++ r) → All
 all-right P [] r a = a
 all-right P (x ∷ xs) r a = all-right P xs r (a .1)
 
-pub all-in : (P : ℕ → Type 0) (a : ℕ) (l : List ℕ) → All P l → In a l → P a
-all-in P a [] p h = absurd h
-all-in P a (x ∷ l) p (inl e) = subst P (sym e) (p .0)
-all-in P a (x ∷ l) p (inr h) = all-in P a l (p .1) h
-
 pub pairs-insert : (R : ℕ → ℕ → Type 0) (b : ℕ) (l r : List ℕ) → Pairs R (l ++ r) → All (λ a. R a b) l → All (R b) r → Pairs R (l ++ (b ∷ r))
 pairs-insert R b [] r p x y = (y, p)
 pairs-insert R b (a ∷ l) r p x y =
@@ -51,40 +39,12 @@ pairs-map P R S f [] a p = tt
 pairs-map P R S f (x ∷ l) a p =
     (all-map (λ (y : ℕ). P y × R x y) (S x) (λ y h. f x y (a .0) (h .0) (h .1)) l (all-both P (R x) l (a .1) (p .0)), pairs-map P R S f l (a .1) (p .1))
 
-pub in-left : (a : ℕ) (l r : List ℕ) → In a l → In a (l ++ r)
-in-left a [] r h = absurd h
-in-left a (x ∷ l) r (inl e) = inl e
-in-left a (x ∷ l) r (inr m) = inr (in-left a l r m)
-
 pub in-split : (a : ℕ) (l r : List ℕ) → In a (l ++ r) → In a l ⊎ In a r
 in-split a [] r h = inr h
 in-split a (x ∷ l) r (inl e) = inl (inl e)
 in-split a (x ∷ l) r (inr h) = ⊎-elim (λ (m : In a l). inl (inr m)) (λ (m : In a r). inr m) (in-split a l r h)
 
--- what a list has, it has after an insertion
-pub insert-keeps : (s a b : ℕ) (l : List ℕ) → In s l → In s (insertAfter a b l)
-unfolding insertAfter
-insert-keeps s a b [] h = absurd h
-insert-keeps s a b (x ∷ l) (inl e) = inl e
-insert-keeps s a b (x ∷ l) (inr h) = inr (go (eqb x a) (insert-keeps s a b l h))
-  where
-    go : (c : Bool) → In s (insertAfter a b l) → In s (cond c (b ∷ l) (insertAfter a b l))
-    go true k = inr h
-    go false k = k
-
--- behind an element the new one is in the list, and the list is longer by one
-pub insert-adds : (a b : ℕ) (l : List ℕ) → In a l → In b (insertAfter a b l) × (length (insertAfter a b l) ≡ suc (length l))
-unfolding insertAfter
-insert-adds a b [] h = absurd h
-insert-adds a b (x ∷ l) h = go (eqb x a) refl h (insert-adds a b l)
-  where
-    go : (c : Bool) → eqb x a ≡ c → In a (x ∷ l) → (In a l → In b (insertAfter a b l) × (length (insertAfter a b l) ≡ suc (length l)))
-        → In b (x ∷ cond c (b ∷ l) (insertAfter a b l)) × (suc (length (cond c (b ∷ l) (insertAfter a b l))) ≡ suc (suc (length l)))
-    go true e h k = (inr (inl refl), refl)
-    go false e (inl z) k = absurd (eqb-false x a e (sym z))
-    go false e (inr z) k = (inr (k z .0), ap suc (k z .1))
-
--- where the new one stands
+-- where the new one stands: right behind a
 pub insert-there : (a b : ℕ) (l r : List ℕ) → All (λ s. s ≢ a) l → insertAfter a b (l ++ (a ∷ r)) ≡ l ++ (a ∷ b ∷ r)
 unfolding insertAfter
 insert-there a b [] r h = rw (eq-eqb a a refl)

@@ -5,10 +5,10 @@ use mathlib.Core.Path.{_≡_, refl, sym, ap, _∙_, subst}
 use mathlib.Core.Bool.{Bool, true, false}
 use mathlib.Core.List.{List, [], _∷_, _++_}
 use mathlib.Core.Option.{Option, none, some}
-use Prim.Native.Nat.{ℕ, zero, suc, _+_, _-_, _≤_, _<_}
+use Prim.Native.Nat.{ℕ, zero, suc, _≤_, _<_}
 use native.Mathlib.Omega.{arith}
 use lib.ListN.{length}
-use Rattle.jobfile.specs.Trace.{begins, tasksAt, depthAt, begunAt}
+use Rattle.jobfile.specs.Trace.{begins, tasksAt, begunAt}
 use Rattle.jobfile.specs.declared.coding.Event.{Event}
 use Rattle.jobfile.specs.declared.coding.Event.the-variants.{Spawn, End, Sync, Read, Write}
 use Rattle.orders.specs.Lists.{All, Below}
@@ -19,7 +19,8 @@ use Rattle.relation.proofs.Walk.{walk-start, walk-step}
 use Rattle.relation.proofs.Strand.{begun-rises, birth-early, birth-old, birth-new}
 use Rattle.strands.specs.Cells.{Cell, cell, cells}
 use Rattle.strands.specs.Frames.{Frame, frame, reframe, fronts, backs, inOrder, frames}
-use Rattle.strands.proofs.Lists.{all-map, all-append}
+use Rattle.orders.proofs.Lists.{all-map}
+use Rattle.strands.proofs.Lists.{all-append}
 use Rattle.strands.proofs.Cells.{waiting, waiting-cells, end-deep}
 use Rattle.strands.proofs.Frames.{Matches, no-cons, cells-match}
 

@@ -29,7 +29,7 @@ abbrev pub point : Event → List Cell → Option ℕ
 point Spawn cells = some (topOf cells)
 point End [] = none
 point End (child ∷ []) = none
-point End (child ∷ cell f t ∷ cells) = some f
+point End (cell f t ∷ cell f′ t′ ∷ cells) = some f′
 point Sync [] = none
 point Sync (cell f t ∷ cells) = t
 point (Read r) cells = none
