@@ -3,9 +3,9 @@
 -- parallel to it. Assumes nothing.
 use mathlib.Core.Path.{_≡_, refl, sym, ap, _∙_, subst}
 use mathlib.Core.Logic.{_⊎_, inl, inr, _↔_}
-use mathlib.Core.Bool.{Bool, true, false, false≢true}
-use mathlib.Core.List.{List, [], _∷_, _++_, append-assoc}
-use Prim.Native.Nat.{ℕ, zero, suc, _-_, _≤_, _<_}
+use mathlib.Core.Bool.{true, false, false≢true}
+use mathlib.Core.List.{[], _∷_, _++_, append-assoc}
+use Prim.Native.Nat.{ℕ, _≤_, _<_}
 use native.Mathlib.Omega.{arith}
 use lib.Dec.{ltb}
 use borrow.Author.Tests.{lt-ltb, le-ltb}
@@ -18,7 +18,7 @@ use Rattle.relation.specs.Walk.{par}
 use Rattle.relation.proofs.Walk.{from}
 use Rattle.relation.proofs.Agree.{walk-is}
 use Rattle.relation.proofs.Strand.{begun-some, begun-rises, birth-old, strand-stands}
-use Rattle.strands.specs.Frames.{fronts, backs, inOrder, frames}
+use Rattle.strands.specs.Frames.{fronts, backs, frames}
 use Rattle.strands.specs.Orders.{hebrewAt}
 use Rattle.orders.proofs.Lists.{all-in}
 use Rattle.strands.proofs.Lists.{pairs-split, in-split}
