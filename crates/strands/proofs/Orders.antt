@@ -21,10 +21,10 @@ use Rattle.strands.proofs.Lists.{all-append, insert-there}
 use Rattle.strands.proofs.Cells.{oneAt, BelowIf, begun-next, point-begun}
 
 -- a list of all strands begun stays one when the next strand is put behind one of them
-pub order-first : Order 1 (0 ∷ [])
+order-first : Order 1 (0 ∷ [])
 order-first = record { size = refl; below = (omega arith, tt); distinct = (tt, tt); all = λ s l. inl (omega arith) }
 
-pub order-next : (o : Option ℕ) (n : ℕ) (l : List ℕ) → BelowIf n o → Order n l → Order (n + oneAt o) (putBehind o n l)
+order-next : (o : Option ℕ) (n : ℕ) (l : List ℕ) → BelowIf n o → Order n l → Order (n + oneAt o) (putBehind o n l)
 order-next none n l h O = rw add-zero O
 order-next (some a) n l h O = order-insert n a l O h
 
