@@ -2,3 +2,5 @@ pub mod Lists
 pub mod Respaced
 pub mod Links
 pub mod Labels
+pub mod Entries
+pub mod Held
