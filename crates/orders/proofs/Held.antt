@@ -85,7 +85,7 @@ unfolding diffs
 diffs-more v [] lab lab' b = refl
 diffs-more v (s ∷ r) lab lab' b = let h : s < length lab = b .0 in simp (List·getD-append, diffs-more v r lab lab' (b .1))
 
-diffs-none : (v : ℕ) (l lab : List ℕ) → Below (length lab) l → diffs l lab (lab ++ v ∷ []) ≡ 0
+pub diffs-none : (v : ℕ) (l lab : List ℕ) → Below (length lab) l → diffs l lab (lab ++ v ∷ []) ≡ 0
 unfolding diffs differ
 diffs-none v [] lab b = refl
 diffs-none v (s ∷ r) lab b =

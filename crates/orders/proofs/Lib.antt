@@ -4,3 +4,5 @@ pub mod Links
 pub mod Labels
 pub mod Entries
 pub mod Held
+pub mod Apart
+pub mod History
