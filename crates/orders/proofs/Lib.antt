@@ -6,3 +6,4 @@ pub mod Entries
 pub mod Held
 pub mod Apart
 pub mod History
+pub mod Values
