@@ -204,7 +204,9 @@ module _ (lab : List ℕ) (s t : ℕ) where
     where
       go : (b : Bool) → eqb p s ≡ b → In t (p ∷ r) → (In s r → In t r → ltb (getD lab s 0) (getD lab t 0) ≡ precedes r s t)
           → ltb (getD lab s 0) (getD lab t 0) ≡ cond b (has t r) (precedes r s t)
-      go true e (inl f) ih = let q : s ≡ t = sym (eqb-true p s e) ∙ sym f in rw (f, has-out p r (d .0)) (le-ltb _ _ (rw (← f, q) (omega arith)))
+      go true e (inl f) ih =
+          let low : getD lab t 0 ≤ getD lab s 0 = rw (f, eqb-true p s e) (omega arith) in
+          rw (has-out t r (rw f (d .0))) (le-ltb (getD lab s 0) (getD lab t 0) low)
       go true e (inr k) ih = rw (has-in t r k, ← eqb-true p s e) (lt-ltb _ _ (all-in (λ q. getD lab p 0 < getD lab q 0) t r (u .0) k))
       go false e (inl f) ih =
           let k : In s r = in-rest s p r e i in

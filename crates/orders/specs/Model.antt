@@ -17,10 +17,18 @@ pub record State : Type 0 where
 abbrev pub first : State
 first = record { ord = 0 ∷ []; lab = 2 ^ 63 ∷ [] }
 
--- the strand that a list begins with, the one after a, and the one before it; "65,535 is none"
+-- the strand that a list begins with, the one that it ends with, the one after a, and the one before it; "65,535 is none"
 unfoldable pub headOf : List ℕ → ℕ
 headOf [] = 65535
 headOf (s ∷ r) = s
+
+unfoldable pub lastFrom : ℕ → List ℕ → ℕ
+lastFrom p [] = p
+lastFrom p (s ∷ r) = lastFrom s r
+
+unfoldable pub lastOf : List ℕ → ℕ
+lastOf [] = 65535
+lastOf (s ∷ r) = lastFrom s r
 
 unfoldable pub nextOf : List ℕ → ℕ → ℕ
 nextOf [] a = 65535
