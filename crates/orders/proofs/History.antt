@@ -6,7 +6,7 @@ use mathlib.Core.Bool.{Bool, true, false, cond, true≢false}
 use Prim.Native.Nat.{ℕ, zero, suc, _+_, _*_, _-_, _/_, _^_, _<_, _≤_}
 use native.Mathlib.Omega.{arith}
 use native.Mathlib.Decide.{decLe}
-use native.Mathlib.Nat.{mul-le-mul, mul-comm, mul-suc, suc-mul}
+use native.Mathlib.Nat.{mul-le-mul-left, mul-comm, mul-suc, suc-mul}
 use native.Mathlib.Numerals.{add-one}
 use lib.ListN.{length, getD}
 use lib.Pow.{pow-pos}
@@ -15,24 +15,18 @@ use borrow.Author.Tests.{le-leb, lt-leb, leb-false}
 use Rattle.orders.specs.Lists.{In, Below}
 use Rattle.orders.specs.Order.{differ, insertAfter}
 use Rattle.orders.specs.Model.{State, first, ceiling, limit, gapAt, hasRoom, middle, spread, diffs, insertLab, insertState, insertCount, grown, grownCount, Gaps, Good}
-use Rattle.orders.proofs.Respaced.{differ-few}
-use Rattle.orders.proofs.Labels.{gap-wide, length-insertLab, room-gaps, respaced-gaps, good-first, good-insert}
-use Rattle.orders.proofs.Held.{diffs-none}
+use Rattle.orders.proofs.Labels.{gap-wide, insertState-size, room-gaps, respaced-gaps, good-first, good-insert}
+use Rattle.orders.proofs.Counting.{diffs-few, diffs-none}
 
--- at most every strand's label differs
-pub diffs-few : (l lab lab' : List ℕ) → diffs l lab lab' ≤ length l
-unfolding diffs
-diffs-few [] lab lab' = omega arith
-diffs-few (s ∷ r) lab lab' = omega (arith, diffs-few r lab lab', differ-few (getD lab s 0) (getD lab' s 0))
-
-pub insert-few : (a x : ℕ) (st : State) → Good st → insertCount a x st ≤ length (st .lab) + 1
+-- an insertion counts the new label, and at most every other
+pub insert-few : (a x : ℕ) (st : State) → insertCount a x st ≤ x + 1
 unfolding insertCount
-insert-few a x st G = omega (arith, diffs-few (st .ord) (st .lab) (insertLab a x st), G .order .size)
+insert-few a x st = omega (arith, diffs-few x (st .lab) (insertLab a x st))
 
 -- where there is room only the new label counts
-pub room-count : (a x : ℕ) (st : State) → Good st → hasRoom st a ≡ true → insertCount a x st ≡ 1
+pub room-count : (a : ℕ) (st : State) → hasRoom st a ≡ true → insertCount a (length (st .lab)) st ≡ 1
 unfolding insertCount insertLab
-room-count a x st G r = rw (r, diffs-none (middle st a) (st .ord) (st .lab) (G .order .below))
+room-count a st r = rw (r, diffs-none (middle st a) (length (st .lab)) (st .lab) (omega arith))
 
 -- half of what is left after m insertions is left after one more
 halves : (m : ℕ) → 2 * (2 ^ (51 - suc m) - 1) ≤ 2 ^ (51 - m) - 1
@@ -70,76 +64,74 @@ module _ (a n m : ℕ) (st : State) (G : Good st) (size : length (st .lab) ≡ n
   unfolding insertState
   wide-respaced r = rw (← size) (respaced-gaps a st (G .order) (rw size begun) (rw size fits) r)
 
+-- The course of a state and its count: how many insertions there have been since the last respacing, and how many respacings, each at least 50
+-- insertions with room after the one before it.
+pub record Course (st : State) (count : ℕ) : Type 0 where
+  pub since : ℕ
+  pub respacings : ℕ
+  pub good : Good st
+  pub wide : Wide since st
+  pub rare : 51 * respacings + since < length (st .lab)
+  pub few : count ≤ length (st .lab) + respacings * length (st .lab)
+
+pub course-first : Course first 1
+course-first = record { since = 0; respacings = 0; good = good-first; wide = wide-first; rare = omega arith; few = omega arith }
+
+module _ (a n count : ℕ) (st : State) (C : Course st count) (size : length (st .lab) ≡ n) (begun : a < n) (fits : n < 4096) where
+  good-more : Good (insertState a n st)
+  good-more = good-insert a n st (C .good) size begun fits
+
+  -- a respacing comes after 50 insertions with room at the earliest
+  pub respaced-late : hasRoom st a ≡ false → 50 ≤ C .since
+  respaced-late r = go (decLe (C .since) 49)
+    where
+      go : Dec (C .since ≤ 49) → 50 ≤ C .since
+      go (yes l) = absurd (true≢false (sym (wide-room a n (C .since) st (C .good) size begun fits (C .wide) l) ∙ r))
+      go (no l) = omega arith
+
+  pub course-more : Course (insertState a n st) (count + insertCount a n st)
+  course-more = go (hasRoom st a) refl
+    where
+      go : (t : Bool) → hasRoom st a ≡ t → Course (insertState a n st) (count + insertCount a n st)
+      go true r = record {
+        since = suc (C .since);
+        respacings = C .respacings;
+        good = good-more;
+        wide = wide-more a n (C .since) st (C .good) size begun fits (C .wide) r;
+        rare = omega (arith, C .rare, insertState-size a n st);
+        few = rw (insertState-size a n st, add-one, mul-suc) (omega (arith, C .few, rw size at (room-count a st r)));
+      }
+      go false r = record {
+        since = 0;
+        respacings = suc (C .respacings);
+        good = good-more;
+        wide = wide-respaced a n (C .since) st (C .good) size begun fits (C .wide) r;
+        rare = omega (arith, C .rare, respaced-late r, insertState-size a n st);
+        few = rw (insertState-size a n st, add-one, mul-suc, suc-mul) (omega (arith, C .few, insert-few a n st));
+      }
+
+-- "Bound": n strands, at most n + n × (n / 48) labels set or changed, the root's and every respacing's included
+pub course-bound : (n count : ℕ) (st : State) → Course st count → length (st .lab) ≡ n → count ≤ n + n * (n / 48)
+course-bound n count st C size =
+    let rare : C .respacings ≤ n / 48 = omega (arith, C .rare) in
+    let less : n * C .respacings ≤ n * (n / 48) = mul-le-mul-left n rare in
+    omega (arith, rw size at (C .few), less, mul-comm (C .respacings) n)
+
+-- a history of insertions from one strand on, each right after a strand that has begun
 module _ (after : ℕ → ℕ) where
-  pub grown-size : (j : ℕ) → length (grown after j .lab) ≡ j + 1
-  unfolding grown insertState
+  pub grown-size : (j : ℕ) → length (grown after j .lab) ≡ suc j
+  unfolding grown
   grown-size zero = refl
-  grown-size (suc j) = length-insertLab (after j) (suc j) (grown after j) ∙ omega (arith, grown-size j)
+  grown-size (suc j) = insertState-size (after j) (suc j) (grown after j) ∙ omega (arith, grown-size j)
 
-  -- each of the first j strands after the root goes right after one that has begun
-  abbrev pub Told : ℕ → Type 0
-  Told j = (i : ℕ) → i < j → after i ≤ i
-
-  -- how many insertions there have been since the last respacing, and how many respacings
-  unfoldable pub since : ℕ → ℕ
-  since zero = 0
-  since (suc j) = cond (hasRoom (grown after j) (after j)) (suc (since j)) 0
-
-  unfoldable pub respacings : ℕ → ℕ
-  respacings zero = 0
-  respacings (suc j) = cond (hasRoom (grown after j) (after j)) (respacings j) (suc (respacings j))
-
-  pub record Course (j : ℕ) : Type 0 where
-    pub good : Good (grown after j)
-    pub wide : Wide (since j) (grown after j)
-    pub rare : 51 * respacings j + since j ≤ j
-    pub count : grownCount after j ≤ suc j + respacings j * j
-
-  course-first : Course 0
-  unfolding grown grownCount since respacings
-  course-first = record { good = good-first; wide = wide-first; rare = omega arith; count = omega arith }
-
-  module _ (j : ℕ) (C : Course j) (h : after j ≤ j) (f : suc j < 4096) where
-    sized : length (grown after j .lab) ≡ suc j
-    sized = grown-size j ∙ omega arith
-
-    -- a respacing comes after 50 insertions with room at the earliest
-    pub respaced-late : hasRoom (grown after j) (after j) ≡ false → 50 ≤ since j
-    respaced-late r = go (decLe (since j) 49)
-      where
-        go : Dec (since j ≤ 49) → 50 ≤ since j
-        go (yes l) = let z : true ≡ false = sym (wide-room (after j) (suc j) (since j) (grown after j) (C .good) sized (omega arith) f (C .wide) l) ∙ r in absurd (true≢false z)
-        go (no l) = omega arith
-
-    course-more : Course (suc j)
-    unfolding grown grownCount since respacings
-    course-more = go (hasRoom (grown after j) (after j)) refl
-      where
-        go : (t : Bool) → hasRoom (grown after j) (after j) ≡ t → Course (suc j)
-        go true r = record {
-          good = good-insert (after j) (suc j) (grown after j) (C .good) sized (omega arith) f;
-          wide = rw r (wide-more (after j) (suc j) (since j) (grown after j) (C .good) sized (omega arith) f (C .wide) r);
-          rare = rw r (omega (arith, C .rare));
-          count = rw (r, room-count (after j) (suc j) (grown after j) (C .good) r, mul-suc (respacings j) j) (omega (arith, C .count));
-        }
-        go false r = record {
-          good = good-insert (after j) (suc j) (grown after j) (C .good) sized (omega arith) f;
-          wide = rw r (wide-respaced (after j) (suc j) (since j) (grown after j) (C .good) sized (omega arith) f (C .wide) r);
-          rare = rw r (omega (arith, C .rare, respaced-late r));
-          count = rw (r, mul-suc (suc (respacings j)) j, suc-mul (respacings j) j) (omega (arith, C .count, insert-few (after j) (suc j) (grown after j) (C .good), sized));
-        }
-
-  pub course : (j : ℕ) → Told j → j < 4096 → Course j
+  pub course : (j : ℕ) → ((i : ℕ) → i < j → after i ≤ i) → j < 4096 → Course (grown after j) (grownCount after j)
+  unfolding grown grownCount
   course zero h f = course-first
-  course (suc j) h f = course-more j (course j (λ i b. h i (omega arith)) (omega arith)) (h j (omega arith)) f
+  course (suc j) h f =
+      course-more (after j) (suc j) (grownCount after j) (grown after j) (course j (λ i b. h i (omega arith)) (omega arith)) (grown-size j) (omega (arith, h j (omega arith))) f
 
-  pub grown-good : (j : ℕ) → Told j → j < 4096 → Good (grown after j)
+  pub grown-good : (j : ℕ) → ((i : ℕ) → i < j → after i ≤ i) → j < 4096 → Good (grown after j)
   grown-good j h f = course j h f .good
 
-  -- "Bound": n strands, at most n + n × (n / 48) labels set or changed, the root's and every respacing's included
-  pub bound : (j : ℕ) → Told j → j < 4096 → grownCount after j ≤ suc j + suc j * (suc j / 48)
-  bound j h f =
-      let C = course j h f in
-      let few : respacings j ≤ suc j / 48 = omega (arith, C .rare) in
-      let less : j * respacings j ≤ suc j * (suc j / 48) = mul-le-mul {n₁ = j} {m₁ = respacings j} {n₂ = suc j} {m₂ = suc j / 48} (omega arith) few in
-      omega (arith, C .count, less, mul-comm (respacings j) j)
+  pub bound : (j : ℕ) → ((i : ℕ) → i < j → after i ≤ i) → j < 4096 → grownCount after j ≤ suc j + suc j * (suc j / 48)
+  bound j h f = course-bound (suc j) (grownCount after j) (grown after j) (course j h f) (grown-size j)

@@ -116,6 +116,14 @@ length-insertLab a x st = elim (hasRoom st a)
       | false ↦ length-spread 0 (insertAfter a x (st .ord)) (st .lab ++ 0 ∷ []) ∙ simp length-append
     ]
 
+pub insertState-size : (a x : ℕ) (st : State) → length (insertState a x st .lab) ≡ length (st .lab) + 1
+unfolding insertState
+insertState-size a x st = length-insertLab a x st
+
+pub insertState-ord : (a x : ℕ) (st : State) → insertState a x st .ord ≡ insertAfter a x (st .ord)
+unfolding insertState
+insertState-ord a x st = refl
+
 -- the next strand put right after a
 module _ (a : ℕ) (st : State) (O : Order (length (st .lab)) (st .ord)) (h : a < length (st .lab)) where
   pub more-same : (v : ℕ) → Same (st .lab) (st .lab ++ v ∷ []) (st .ord)

@@ -77,7 +77,7 @@ add-respace c = search needs
 respace-requires : tie.Need-respace-requires
 respace-requires c κs =
     let a = c .before .before .before in
-    rw (linked-now a) (walkable _ _ _ _ _ _ (S a .pre))
+    rw (linked-now a) (walkable _ _ _ _ _ _ (S a .pre) _)
 
 same-length-3 : tie.Need-same-length-3
 same-length-3 c = c .before .before .respace .kept .0 ∙ simp length-set
