@@ -1,25 +1,25 @@
 -- What `insert` makes of buffers that hold a state: they hold the state with the strand put in, and what the code counts are the labels
 -- that differ. Assumes nothing.
-use mathlib.Core.Path.{_≡_, refl, sym, ap, _∙_}
-use mathlib.Core.Logic.{_≢_, _⊎_, inl, inr, ⊎-elim}
+use mathlib.Core.Path.{_≡_, refl, sym, _∙_}
+use mathlib.Core.Logic.{_≢_, inl, inr, ⊎-elim}
 use mathlib.Core.List.{List, [], _∷_, _++_}
 use mathlib.Core.Bool.{Bool, true, false, cond}
-use Prim.Native.Nat.{ℕ, suc, _+_, _*_, _-_, _/_, _^_, _<_, _≤_}
+use Prim.Native.Nat.{ℕ, suc, _+_, _-_, _/_, _^_, _<_, _≤_}
 use native.Mathlib.Omega.{arith}
 use native.Mathlib.Nat.{add-zero}
 use lib.ListN.{length, getD, set, length-set, length-append, List·getD-append}
 use lib.Seq.{getD-set-same, getD-set-other, lt-length-set, getD-at}
-use lib.Dec.{eqb, ltb, leb}
-use borrow.Author.Tests.{eq-eqb, ne-eqb, lt-ltb, le-leb, lt-leb, eqb-true, eqb-false, ltb-true}
-use Rattle.orders.specs.Lists.{In, Out, Distinct, Below}
-use Rattle.orders.specs.Order.{nextIn, backIn, labelIn, spaced, differ, linked, relabel, orderOf, backOrderOf, changes, insertAfter, above, placed, placings, Seg, Chain, Order, Room, Walkable}
-use Rattle.orders.specs.Model.{State, first, headOf, nextOf, backFrom, backOf, ceiling, limit, gapAt, hasRoom, middle, spread, diffs, insertLab, insertState, insertCount, Good, Holds, Kept, Begun, Insertable, Inserted}
-use Rattle.orders.proofs.Lists.{below-in, below-up, in-rest, order-insert}
+use lib.Dec.{eqb, ltb}
+use borrow.Author.Tests.{lt-ltb, le-leb, lt-leb, eqb-true, eqb-false, ltb-true}
+use Rattle.orders.specs.Lists.{In, Distinct, Below}
+use Rattle.orders.specs.Order.{nextIn, labelIn, spaced, differ, linked, relabel, orderOf, changes, insertAfter, above, placed, placings, Seg, Chain, Order, Room, Walkable}
+use Rattle.orders.specs.Model.{State, headOf, nextOf, ceiling, limit, gapAt, hasRoom, middle, spread, diffs, insertLab, insertState, insertCount, Holds, Kept, Begun, Insertable, Inserted}
+use Rattle.orders.proofs.Lists.{below-in, below-up, order-insert}
 use Rattle.orders.proofs.Respaced.{differ-other, relabel-keep}
 use Rattle.orders.proofs.Links.{length-linked, linked-keep, chain-next-in, chain-order, chain-insert}
 use Rattle.orders.proofs.Counting.{diffsOn, diffs-set, diffs-more, diffs-insert, diffs-none, diffs-order}
 use Rattle.orders.proofs.Entries.{chain-next}
-use Rattle.orders.proofs.Labels.{spread-first, length-spread, length-insertLab, good-first, good-insert, gap-wide, labels-fit}
+use Rattle.orders.proofs.Labels.{spread-first, length-insertLab, good-first, good-insert, gap-wide}
 
 -- the label that follows a, by the strand that follows it
 limit-next : (lab : List ℕ) (a : ℕ) (l : List ℕ) → Below 4096 l → limit lab l a ≡ cond (ltb (nextOf l a) 4096) (getD lab (nextOf l a) 0) (2 ^ 64 - 1)
@@ -254,3 +254,11 @@ begun L K lo ln R =
             simp getD-set-other;
       };
     }
+
+-- no second answer fits
+pub begun-once : (L K : List ℕ) (lo ln : ℕ) (L' K' L'' K'' : List ℕ) → Begun L K lo ln L' K' → Begun L K lo ln L'' K'' → (L' ≡ L'') × (K' ≡ K'')
+begun-once L K lo ln L' K' L'' K'' B C = (B .labels ∙ sym (C .labels), B .links ∙ sym (C .links))
+
+pub inserted-once : (L K : List ℕ) (lo ln a x : ℕ) (L' K' : List ℕ) (r : ℕ) (L'' K'' : List ℕ) (q : ℕ) → Inserted L K lo ln a x L' K' r → Inserted L K lo ln a x L'' K'' q
+    → (L' ≡ L'') × (K' ≡ K'') × (r ≡ q)
+inserted-once L K lo ln a x L' K' r L'' K'' q I J = (I .labels ∙ sym (J .labels), I .links ∙ sym (J .links), I .count ∙ sym (J .count))

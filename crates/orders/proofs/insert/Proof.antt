@@ -1,7 +1,7 @@
-use mathlib.Core.Path.{_≡_, refl, sym, ap, _∙_}
-use Prim.Native.Nat.{ℕ, _+_, _-_, _<_, _≤_}
-use native.Mathlib.Omega.{arith}
-use lib.ListN.{length, length-set, getD}
+-- `insert` meets its contract: `link` leaves the links, and either branch leaves the labels and the count of `placed` and `placings`; `inserted` says
+-- the rest of both. The labels rise, so the gap does not wrap. Assumes nothing.
+use mathlib.Core.Path.{_≡_, _∙_}
+use lib.ListN.{length-set}
 use borrow.Author.Needs.{needs}
 use Rattle.orders.specs.Order.{nextIn, linked, above}
 use Rattle.orders.proofs.Held.{gap, walkable, inserted-between, inserted-respaced}
