@@ -1,24 +1,25 @@
 -- What `insert` makes of buffers that hold a state: they hold the state with the strand put in, and what the code counts are the labels
 -- that differ. Assumes nothing.
-use mathlib.Core.Path.{_≡_, refl, sym, ap, _∙_}
-use mathlib.Core.Logic.{_≢_, _⊎_, inl, inr, ⊎-elim}
+use mathlib.Core.Path.{_≡_, refl, sym, _∙_}
+use mathlib.Core.Logic.{_≢_, inl, inr, ⊎-elim}
 use mathlib.Core.List.{List, [], _∷_, _++_}
 use mathlib.Core.Bool.{Bool, true, false, cond}
-use Prim.Native.Nat.{ℕ, suc, _+_, _*_, _-_, _/_, _^_, _<_, _≤_}
+use Prim.Native.Nat.{ℕ, suc, _+_, _-_, _/_, _^_, _<_, _≤_}
 use native.Mathlib.Omega.{arith}
 use native.Mathlib.Nat.{add-zero}
 use lib.ListN.{length, getD, set, length-set, length-append, List·getD-append}
 use lib.Seq.{getD-set-same, getD-set-other, lt-length-set, getD-at}
-use lib.Dec.{eqb, ltb, leb}
-use borrow.Author.Tests.{eq-eqb, ne-eqb, lt-ltb, le-leb, lt-leb, eqb-true, eqb-false, ltb-true}
-use Rattle.orders.specs.Lists.{In, Out, Distinct, Below}
-use Rattle.orders.specs.Order.{nextIn, backIn, labelIn, spaced, differ, linked, relabel, orderOf, backOrderOf, changes, insertAfter, above, placed, placings, Seg, Chain, Order, Room, Walkable}
-use Rattle.orders.specs.Model.{State, first, headOf, nextOf, backFrom, backOf, ceiling, limit, gapAt, hasRoom, middle, spread, diffs, insertLab, insertState, insertCount, Good, Holds, Kept, Begun, Insertable, Inserted}
-use Rattle.orders.proofs.Lists.{below-in, below-up, in-rest, order-insert}
+use lib.Dec.{eqb, ltb}
+use borrow.Author.Tests.{lt-ltb, le-leb, lt-leb, eqb-true, eqb-false, ltb-true}
+use Rattle.orders.specs.Lists.{In, Distinct, Below}
+use Rattle.orders.specs.Order.{nextIn, labelIn, spaced, differ, linked, relabel, orderOf, changes, insertAfter, above, placed, placings, Seg, Chain, Order, Room, Walkable}
+use Rattle.orders.specs.Model.{State, headOf, nextOf, ceiling, limit, gapAt, hasRoom, middle, spread, diffs, insertLab, insertState, insertCount, Holds, Kept, Begun, Insertable, Inserted}
+use Rattle.orders.proofs.Lists.{below-in, below-up, order-insert}
 use Rattle.orders.proofs.Respaced.{differ-other, relabel-keep}
 use Rattle.orders.proofs.Links.{length-linked, linked-keep, chain-next-in, chain-order, chain-insert}
+use Rattle.orders.proofs.Counting.{diffsOn, diffs-set, diffs-more, diffs-insert, diffs-none, diffs-order}
 use Rattle.orders.proofs.Entries.{chain-next}
-use Rattle.orders.proofs.Labels.{spread-first, length-spread, length-insertLab, good-first, good-insert, gap-wide, labels-fit}
+use Rattle.orders.proofs.Labels.{spread-first, length-insertLab, good-first, good-insert, gap-wide}
 
 -- the label that follows a, by the strand that follows it
 limit-next : (lab : List ℕ) (a : ℕ) (l : List ℕ) → Below 4096 l → limit lab l a ≡ cond (ltb (nextOf l a) 4096) (getD lab (nextOf l a) 0) (2 ^ 64 - 1)
@@ -74,42 +75,14 @@ spread-not-0 k x n (t ∷ r) lab h b d (inl e) =
     rw e m
 spread-not-0 k x n (t ∷ r) lab h b d (inr i) = spread-not-0 (suc k) x n r (set lab t (spaced k)) (simp length-set h) (b .1) (d .1) i
 
--- how many labels differ, with a label set that is none of the list's, one more, none changed, and a strand put in
-diffs-set : (t v : ℕ) (l lab lab' : List ℕ) → Out t l → diffs l (set lab t v) lab' ≡ diffs l lab lab'
-unfolding diffs
-diffs-set t v [] lab lab' o = refl
-diffs-set t v (s ∷ r) lab lab' o = let n₁ : s ≢ t = omega arith in simp (getD-set-other, diffs-set t v r lab lab' (o .1))
-
-diffs-more : (v : ℕ) (l lab lab' : List ℕ) → Below (length lab) l → diffs l (lab ++ v ∷ []) lab' ≡ diffs l lab lab'
-unfolding diffs
-diffs-more v [] lab lab' b = refl
-diffs-more v (s ∷ r) lab lab' b = let h : s < length lab = b .0 in simp (List·getD-append, diffs-more v r lab lab' (b .1))
-
-pub diffs-none : (v : ℕ) (l lab : List ℕ) → Below (length lab) l → diffs l lab (lab ++ v ∷ []) ≡ 0
-unfolding diffs differ
-diffs-none v [] lab b = refl
-diffs-none v (s ∷ r) lab b =
-    let h : s < length lab = b .0 in
-    simp (List·getD-append, eq-eqb (getD lab s 0) (getD lab s 0) refl, diffs-none v r lab (b .1))
-
-diffs-insert : (a x : ℕ) (l lab lab' : List ℕ) → In a l → diffs (insertAfter a x l) lab lab' ≡ differ (getD lab x 0) (getD lab' x 0) + diffs l lab lab'
-unfolding diffs insertAfter
-diffs-insert a x [] lab lab' i = absurd i
-diffs-insert a x (s ∷ r) lab lab' i = go (eqb s a) refl (diffs-insert a x r lab lab')
-  where
-    go : (t : Bool) → eqb s a ≡ t → (In a r → diffs (insertAfter a x r) lab lab' ≡ differ (getD lab x 0) (getD lab' x 0) + diffs r lab lab')
-        → differ (getD lab s 0) (getD lab' s 0) + diffs (cond t (x ∷ r) (insertAfter a x r)) lab lab' ≡ differ (getD lab x 0) (getD lab' x 0) + (differ (getD lab s 0) (getD lab' s 0) + diffs r lab lab')
-    go true e ih = omega arith
-    go false e ih = omega (arith, ih (in-rest a s r e i))
-
 -- what a respacing counts are the strands whose labels differ
-changes-diffs : (lo n k : ℕ) (l L lab : List ℕ) → lo + n ≤ length L → n ≤ length lab → Below n l → Distinct l → Agree L lo n lab → changes L lo k l ≡ diffs l lab (spread k l lab)
-unfolding changes diffs spread
+changes-diffs : (lo n k : ℕ) (l L lab : List ℕ) → lo + n ≤ length L → n ≤ length lab → Below n l → Distinct l → Agree L lo n lab → changes L lo k l ≡ diffsOn l lab (spread k l lab)
+unfolding changes diffsOn spread
 changes-diffs lo n k [] L lab h g b d e = refl
 changes-diffs lo n k (t ∷ r) L lab h g b d e =
     let M = set L (lo + t) (spaced k) in
     let mab = set lab t (spaced k) in
-    let ih : changes M lo (suc k) r ≡ diffs r mab (spread (suc k) r mab) = changes-diffs lo n (suc k) r M mab (simp length-set h) (simp length-set g) (b .1) (d .1)
+    let ih : changes M lo (suc k) r ≡ diffsOn r mab (spread (suc k) r mab) = changes-diffs lo n (suc k) r M mab (simp length-set h) (simp length-set g) (b .1) (d .1)
     (agree-set L lo n lab t (spaced k) (omega arith) (omega arith) e) in
     let p : labelIn L lo t ≡ getD lab t 0 = e t (b .0) in
     let q : getD (spread k (t ∷ r) lab) t 0 ≡ spaced k = spread-first k t r lab (omega arith) (d .0) in
@@ -151,8 +124,8 @@ module _ (L K : List ℕ) (lo ln a : ℕ) (st : State) (H : Holds L K lo ln st) 
   walk : orderOf (linked K ln a x) ln (x + 1) 0 ≡ ord'
   walk = chain-order (linked K ln a x) ln (x + 1) ord' chain-held (more .size)
 
-  walkable-held : Walkable (set L (lo + x) 0) (linked K ln a x) lo ln (x + 1)
-  walkable-held = record {
+  walkable-held : (v : ℕ) → Walkable (set L (lo + x) v) (linked K ln a x) lo ln (x + 1)
+  walkable-held v = record {
     room = record { labels = simp length-set (R .labels); links = simp length-linked (R .links) };
     count = omega arith;
     below = rw walk (below-up (x + 1) 4096 ord' (omega arith) (more .below));
@@ -184,8 +157,8 @@ module _ (L K : List ℕ) (lo ln a : ℕ) (st : State) (H : Holds L K lo ln st) 
       let h : lo + (x + 1) ≤ length (set L (lo + x) 0) = simp length-set (omega (arith, in-labels)) in
       agree-spread lo (x + 1) 0 ord' (set L (lo + x) 0) (st .lab ++ 0 ∷ []) h (omega (arith, one-more 0)) (more .below) (agree-more L lo 0 (st .lab) in-labels (H .labels))
 
-  count-labs : (t : Bool) → cond t 1 (changes (set L (lo + x) 0) lo 0 ord') ≡ 1 + diffs (st .ord) (st .lab) (labs t)
-  count-labs true = rw (diffs-none (middle st a) (st .ord) (st .lab) (H .good .order .below))
+  count-labs : (t : Bool) → cond t 1 (changes (set L (lo + x) 0) lo 0 ord') ≡ 1 + diffs x (st .lab) (labs t)
+  count-labs true = rw (diffs-none (middle st a) x (st .lab) (omega arith))
   count-labs false =
       let h : lo + (x + 1) ≤ length (set L (lo + x) 0) = simp length-set (omega (arith, in-labels)) in
       let g : x + 1 ≤ length (st .lab ++ 0 ∷ []) = omega (arith, one-more 0) in
@@ -197,6 +170,7 @@ module _ (L K : List ℕ) (lo ln a : ℕ) (st : State) (H : Holds L K lo ln st) 
         z,
         w,
         diffs-more 0 (st .ord) (st .lab) (labs false) (H .good .order .below),
+        diffs-order x (st .ord) (st .lab) (labs false) (H .good .order),
       )
 
   held : Holds (placed L K lo ln a x) (linked K ln a x) lo ln (insertState a x st) × (placings L K lo ln a x ≡ insertCount a x st)
@@ -229,8 +203,8 @@ module _ (L K : List ℕ) (lo ln a n : ℕ) (P : Insertable L K lo ln a n) where
   pub gap : labelIn L lo a ≤ above L lo (nextIn K ln a)
   gap = gap-held L K lo ln a (P .st) (P .holds) (P .room) (rw (P .size) (P .begun)) (rw (P .size) (P .fits))
 
-  pub walkable : Walkable (set L (lo + n) 0) (linked K ln a n) lo ln (n + 1)
-  walkable = rw (P .size) at (walkable-held L K lo ln a (P .st) (P .holds) (P .room) (rw (P .size) (P .begun)) (rw (P .size) (P .fits)))
+  pub walkable : (v : ℕ) → Walkable (set L (lo + n) v) (linked K ln a n) lo ln (n + 1)
+  walkable v = rw (P .size) at (walkable-held L K lo ln a (P .st) (P .holds) (P .room) (rw (P .size) (P .begun)) (rw (P .size) (P .fits)) v)
 
   pub inserted : (L' K' : List ℕ) (r : ℕ) → K' ≡ linked K ln a n → L' ≡ placed L K lo ln a n → r ≡ placings L K lo ln a n → Inserted L K lo ln a n L' K' r
   inserted L' K' r k l c = record {
@@ -280,3 +254,11 @@ begun L K lo ln R =
             simp getD-set-other;
       };
     }
+
+-- no second answer fits
+pub begun-once : (L K : List ℕ) (lo ln : ℕ) (L' K' L'' K'' : List ℕ) → Begun L K lo ln L' K' → Begun L K lo ln L'' K'' → (L' ≡ L'') × (K' ≡ K'')
+begun-once L K lo ln L' K' L'' K'' B C = (B .labels ∙ sym (C .labels), B .links ∙ sym (C .links))
+
+pub inserted-once : (L K : List ℕ) (lo ln a x : ℕ) (L' K' : List ℕ) (r : ℕ) (L'' K'' : List ℕ) (q : ℕ) → Inserted L K lo ln a x L' K' r → Inserted L K lo ln a x L'' K'' q
+    → (L' ≡ L'') × (K' ≡ K'') × (r ≡ q)
+inserted-once L K lo ln a x L' K' r L'' K'' q I J = (I .labels ∙ sym (J .labels), I .links ∙ sym (J .links), I .count ∙ sym (J .count))

@@ -1,19 +1,19 @@
 -- The labels of a state, with no buffer: they rise along the order, a new strand keeps that, and comparing labels is comparing places.
 -- Assumes nothing.
-use mathlib.Core.Path.{_≡_, refl, sym, ap, _∙_}
-use mathlib.Core.Logic.{_≢_, _⊎_, inl, inr}
+use mathlib.Core.Path.{_≡_, refl, sym, _∙_}
+use mathlib.Core.Logic.{_≢_, inl, inr}
 use mathlib.Core.List.{List, [], _∷_, _++_}
 use mathlib.Core.Bool.{Bool, true, false, cond}
-use Prim.Native.Nat.{ℕ, suc, _+_, _*_, _-_, _/_, _^_, _<_, _≤_}
+use Prim.Native.Nat.{ℕ, suc, _+_, _*_, _-_, _^_, _<_, _≤_}
 use native.Mathlib.Omega.{arith}
 use lib.ListN.{length, getD, set, length-set, length-append, List·getD-append}
 use lib.Seq.{getD-set-same, getD-set-other, getD-at}
-use lib.Dec.{eqb, ltb, leb}
-use borrow.Author.Tests.{eq-eqb, ne-eqb, lt-ltb, le-ltb, eqb-true, eqb-false, leb-true}
+use lib.Dec.{eqb, ltb}
+use borrow.Author.Tests.{eq-eqb, ne-eqb, lt-ltb, le-ltb, eqb-true, leb-true}
 use Rattle.orders.specs.Lists.{All, Pairs, In, Out, Distinct, Below}
 use Rattle.orders.specs.Order.{spaced, insertAfter, Order}
 use Rattle.orders.specs.Model.{State, first, has, precedes, ceiling, limit, gapAt, hasRoom, middle, spread, insertLab, insertState, Gaps, Good}
-use Rattle.orders.proofs.Lists.{all-map, all-in, out-in, below-in, below-up, below-out, in-rest, order-insert}
+use Rattle.orders.proofs.Lists.{all-map, all-in, in-rest, order-insert}
 
 -- the strands of a list have the same labels in lab' as in lab
 abbrev Same : List ℕ → List ℕ → List ℕ → Type 0
@@ -85,7 +85,11 @@ unfolding spread
 length-spread k [] lab = refl
 length-spread k (t ∷ r) lab = length-spread (suc k) r (set lab t (spaced k)) ∙ simp length-set
 
--- 4,096 strands end at 2^64 - 2^51: the gaps after a respacing are 2^51 - 1 at least
+-- the last of 4,096 labels of a respacing is 2^64 - 2^51
+pub spaced-fits : (k : ℕ) → k < 4096 → spaced k + 2 ^ 51 ≤ 2 ^ 64
+spaced-fits k h = omega arith
+
+-- the gaps after a respacing are 2^51 - 1 at least
 pub spread-gaps : (k : ℕ) (l lab : List ℕ) → Below (length lab) l → Distinct l → k + length l ≤ 4096 → Gaps (spread k l lab) (2 ^ 51 - 1) l
 unfolding Gaps ceiling spread
 spread-gaps k [] lab b d h = tt
@@ -115,6 +119,14 @@ length-insertLab a x st = elim (hasRoom st a)
       | true ↦ simp length-append
       | false ↦ length-spread 0 (insertAfter a x (st .ord)) (st .lab ++ 0 ∷ []) ∙ simp length-append
     ]
+
+pub insertState-size : (a x : ℕ) (st : State) → length (insertState a x st .lab) ≡ length (st .lab) + 1
+unfolding insertState
+insertState-size a x st = length-insertLab a x st
+
+pub insertState-ord : (a x : ℕ) (st : State) → insertState a x st .ord ≡ insertAfter a x (st .ord)
+unfolding insertState
+insertState-ord a x st = refl
 
 -- the next strand put right after a
 module _ (a : ℕ) (st : State) (O : Order (length (st .lab)) (st .ord)) (h : a < length (st .lab)) where

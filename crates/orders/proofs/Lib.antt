@@ -2,6 +2,7 @@ pub mod Lists
 pub mod Respaced
 pub mod Links
 pub mod Labels
+pub mod Counting
 pub mod Entries
 pub mod Held
 pub mod Apart

@@ -86,14 +86,14 @@ insertLab a x st =
 unfoldable pub insertState : ℕ → ℕ → State → State
 insertState a x st = record { ord = insertAfter a x (st .ord); lab = insertLab a x st }
 
--- how many strands of a list have another label in lab' than in lab
-unfoldable pub diffs : List ℕ → List ℕ → List ℕ → ℕ
-diffs [] lab lab' = 0
-diffs (s ∷ r) lab lab' = differ (getD lab s 0) (getD lab' s 0) + diffs r lab lab'
+-- how many strands below n have another label in lab' than in lab
+unfoldable pub diffs : ℕ → List ℕ → List ℕ → ℕ
+diffs zero lab lab' = 0
+diffs (suc n) lab lab' = diffs n lab lab' + differ (getD lab n 0) (getD lab' n 0)
 
 -- "A label counts as changed by an event if it differs after it, or if the strand is new."
 unfoldable pub insertCount : ℕ → ℕ → State → ℕ
-insertCount a x st = 1 + diffs (st .ord) (st .lab) (insertLab a x st)
+insertCount a x st = 1 + diffs x (st .lab) (insertLab a x st)
 
 -- a history: strand j + 1 goes right after strand `after j`; the state after j insertions, and "The root's counts before any event, so
 -- each count starts at 1."

@@ -1,3 +1,4 @@
+-- `begin` meets its contract: the three stores are those of `Begun`, whose other parts `begun` proves. Assumes nothing.
 use native.Mathlib.Omega.{arith}
 use lib.ListN.{length-set}
 use borrow.Author.Needs.{needs}

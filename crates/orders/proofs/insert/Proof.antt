@@ -1,7 +1,7 @@
-use mathlib.Core.Path.{_≡_, refl, sym, ap, _∙_}
-use Prim.Native.Nat.{ℕ, _+_, _-_, _<_, _≤_}
-use native.Mathlib.Omega.{arith}
-use lib.ListN.{length, length-set, getD}
+-- `insert` meets its contract: `link` leaves the links, and either branch leaves the labels and the count of `placed` and `placings`; `inserted` says
+-- the rest of both. The labels rise, so the gap does not wrap. Assumes nothing.
+use mathlib.Core.Path.{_≡_, _∙_}
+use lib.ListN.{length-set}
 use borrow.Author.Needs.{needs}
 use Rattle.orders.specs.Order.{nextIn, linked, above}
 use Rattle.orders.proofs.Held.{gap, walkable, inserted-between, inserted-respaced}
@@ -77,7 +77,7 @@ add-respace c = search needs
 respace-requires : tie.Need-respace-requires
 respace-requires c κs =
     let a = c .before .before .before in
-    rw (linked-now a) (walkable _ _ _ _ _ _ (S a .pre))
+    rw (linked-now a) (walkable _ _ _ _ _ _ (S a .pre) _)
 
 same-length-3 : tie.Need-same-length-3
 same-length-3 c = c .before .before .respace .kept .0 ∙ simp length-set

@@ -1,3 +1,4 @@
+-- `respace` meets its contract: at the loop's head what is done and what is left to do make the whole (`Turn`). Assumes nothing.
 use Prim.Native.Nat.{_-_, _<_, _≤_}
 use native.Mathlib.Omega.{arith}
 use borrow.Author.Needs.{needs}
