@@ -12,7 +12,7 @@ use Rattle.relation.proofs.Agree.{walk-sound, walk-complete}
 use Rattle.relation.proofs.Strand.{birth-early, birth-later, strands-compare, one-strand}
 use Rattle.relation.proofs.Walk.{par-trans}
 
-bool-cases : (b : Bool) → (b ≡ true) ⊎ (b ≡ false)
+pub bool-cases : (b : Bool) → (b ≡ true) ⊎ (b ≡ false)
 bool-cases true = inl refl
 bool-cases false = inr refl
 

@@ -6,3 +6,7 @@ pub mod Laws
 pub mod Prefix
 pub mod Spawned
 pub mod Moves
+pub mod Answers
+pub mod Files
+pub mod Meaning
+pub mod Cases

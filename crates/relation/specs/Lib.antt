@@ -1,4 +1,5 @@
 pub mod Between
 pub mod Parallel
+pub mod Question
 pub mod Strand
 pub mod Walk

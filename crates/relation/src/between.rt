@@ -72,13 +72,13 @@ fn moved(w: Walker, e: Event) -> Walker
             }
         }
         Event::Sync => {
-            if w.height == 0 {
-                return Walker {
-                    height: 0,
-                    par: false,
-                };
+            if w.height > 0 {
+                return w;
             }
-            w
+            Walker {
+                height: w.height,
+                par: false,
+            }
         }
         Event::Read(_) => w,
         Event::Write(_) => w,

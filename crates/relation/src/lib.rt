@@ -1,4 +1,117 @@
-// Parallel and before.
+// Parallel and before: the question about two accesses of a file.
+//
+// Every byte string and every two numbers are dealt with: an answer, or a refusal by its number.
+// The public call has no `requires`, and nothing here writes to a caller's buffer.
 mod between;
 
-pub use between::event_at;
+ghost use mathlib.Core.Path.{_≡_};
+ghost use mathlib.Core.Bool.{_&&_};
+ghost use Prim.Native.Nat.{_<_};
+ghost use lib.Dec.{ltb};
+ghost use Rattle.jobfile.specs.Trace.{eventAt};
+ghost use Rattle.relation.specs.Between.{Walkable};
+ghost use Rattle.relation.specs.Question.{questionOf, askedOf, compareOf, isAccess};
+use between::event_at;
+use between::parallel;
+use jobfile::Checked;
+use jobfile::Event;
+use jobfile::Refusal;
+use jobfile::check;
+use jobfile::refuse;
+
+// How the first of two accesses stands to the second.
+pub enum Answer {
+    Same,
+    Before,
+    After,
+    Parallel,
+    Refused(Refusal),
+}
+
+// The question about events i and j of a file: the check of the file, then one pass over the
+// events between the two.
+pub fn question(file: &[u8], i: usize, j: usize) -> Answer
+    ensures { λ r. ⌜ r ≡ questionOf (now (file .entry)) i j ⌝ }
+{
+    match check(file) {
+        Checked::Refused(r) => Answer::Refused(r),
+        Checked::Accepted(job) => {
+            let start = job.start;
+            let end = start + 4 * job.events;
+            asked(&file[start..end], job.events, i, j)
+        }
+    }
+}
+
+// The question about events i and j of an accepted file's events, of which there are `count`.
+// requires: the part holds the events, and no end closes the root.
+fn asked(part: &[u8], count: usize, i: usize, j: usize) -> Answer
+    requires { ⌜ Walkable (now part) 0 count ⌝ }
+    ensures { λ r. ⌜ r ≡ askedOf (eventAt (now (part .entry))) count i j ⌝ }
+{
+    let below = both(i < count, j < count);
+    let access = both(access_at(part, count, i), access_at(part, count, j));
+    if !below {
+        return Answer::Refused(refuse(15, 0));
+    }
+    if !access {
+        return Answer::Refused(refuse(18, 0));
+    }
+    compare(part, count, i, j)
+}
+
+fn both(a: bool, b: bool) -> bool
+    ensures { λ r. ⌜ r ≡ (a && b) ⌝ }
+{
+    if a {
+        return b;
+    }
+    false
+}
+
+// Whether n is the number of an access.
+// requires: as `asked`.
+fn access_at(part: &[u8], count: usize, n: usize) -> bool
+    requires { ⌜ Walkable (now part) 0 count ⌝ }
+    ensures { λ r. ⌜ r ≡ (ltb n count && isAccess (eventAt (now (part .entry)) n)) ⌝ }
+{
+    if n >= count {
+        return false;
+    }
+    is_access(event_at(part, n))
+}
+
+// Whether an event is a read or a write.
+fn is_access(e: Event) -> bool
+    ensures { λ r. ⌜ r ≡ isAccess e ⌝ }
+{
+    match e {
+        Event::Spawn => false,
+        Event::End => false,
+        Event::Sync => false,
+        Event::Read(_) => true,
+        Event::Write(_) => true,
+    }
+}
+
+// The answer about two accesses of an accepted file's events.
+// requires: as `asked`, and both numbers are below the count.
+fn compare(part: &[u8], count: usize, i: usize, j: usize) -> Answer
+    requires { ⌜ Walkable (now part) 0 count ⌝ }
+    requires { ⌜ (i < count) × (j < count) ⌝ }
+    ensures { λ r. ⌜ r ≡ compareOf (eventAt (now (part .entry))) i j ⌝ }
+{
+    if i == j {
+        return Answer::Same;
+    }
+    if i < j {
+        if parallel(part, i, j) {
+            return Answer::Parallel;
+        }
+        return Answer::Before;
+    }
+    if parallel(part, j, i) {
+        return Answer::Parallel;
+    }
+    Answer::After
+}

@@ -20,11 +20,11 @@ enum-told c = search needs
 
 returns : tie.Need-returns
 unfolding eventAt
-returns c = ap eventIn (sym (sym (c .before .before .before .decode .ensures) ∙ c .before .e .given .1))
+returns c = ap eventIn (sym (sym (c .before .before .before .decode .ensures .0) ∙ c .before .e .given .1))
 
 returns-2 : tie.Need-returns-2
 unfolding eventAt
-returns-2 c = ap eventIn (sym (sym (c .before .before .decode .ensures) ∙ c .enum-told .given .1))
+returns-2 c = ap eventIn (sym (sym (c .before .before .decode .ensures .0) ∙ c .enum-told .given .1))
 
 pub event-at-spec : {M : Type 1} → statement M
 event-at-spec =
