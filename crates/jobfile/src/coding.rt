@@ -3,6 +3,7 @@ ghost use mathlib.Core.Path.{_≡_};
 ghost use Prim.Native.Nat.{_+_, _*_, _≤_};
 ghost use lib.ListN.{length};
 ghost use Rattle.jobfile.specs.Coding.{eventOf, decodeAt, DecodeFits};
+ghost use Rattle.jobfile.specs.Trace.{eventAt};
 
 // One of five things; two carry a record.
 pub enum Event {
@@ -66,4 +67,16 @@ pub fn decode(part: &[u8], at: usize) -> Decoded
     ensures { λ r. ⌜ DecodeFits r ⌝ }
 {
     event_of(part[at], part[at + 1], pair(part[at + 2], part[at + 3]))
+}
+
+// Event number n of a part. Bytes that are refused stand for a sync; an accepted file shows none.
+// requires: the event's four bytes are there; the callers walk a part that holds whole events.
+pub fn event_at(part: &[u8], n: usize) -> Event
+    requires { ⌜ 4 * n + 4 ≤ length (now part) ⌝ }
+    ensures { λ r. ⌜ r ≡ eventAt (now (part .entry)) n ⌝ }
+{
+    match decode(part, 4 * n) {
+        Decoded::Event(e) => e,
+        Decoded::Refused(_) => Event::Sync,
+    }
 }

@@ -10,6 +10,7 @@ mod trailer;
 pub use coding::Decoded;
 pub use coding::Event;
 pub use coding::decode;
+pub use coding::event_at;
 pub use refusal::Refusal;
 pub use refusal::refuse;
 pub use tasks::Traced;
