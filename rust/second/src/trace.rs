@@ -52,8 +52,10 @@ pub struct Trace {
 impl Trace {
     pub fn of(events: Vec<Event>) -> Trace {
         let (mut tasks, current) = spawned(&events);
-        for task in 1..tasks.len() {
-            tasks[task].closed = closing(&events, &current, tasks[task]);
+        let closers = closers(&events, &current, tasks.len());
+        for task in tasks.iter_mut().skip(1) {
+            let closing = closers[task.parent].iter().find(|&&at| at > task.end);
+            task.closed = closing.copied().unwrap_or(NEVER);
         }
         let (begins, strands) = begun(&events, &tasks);
         Trace { events, tasks, current, begins, strands }
@@ -116,10 +118,15 @@ fn spawned(events: &[Event]) -> (Vec<Task>, Vec<usize>) {
     (tasks, current)
 }
 
-/// The first sync or end of the parent after the task's end.
-fn closing(events: &[Event], current: &[usize], task: Task) -> usize {
-    let closes = |&at: &usize| current[at] == task.parent && matches!(events[at], Event::Sync | Event::End);
-    (task.end + 1..events.len()).find(closes).unwrap_or(NEVER)
+/// For each task, the events at which it syncs or ends.
+fn closers(events: &[Event], current: &[usize], tasks: usize) -> Vec<Vec<usize>> {
+    let mut closers = vec![Vec::new(); tasks];
+    for (at, event) in events.iter().enumerate() {
+        if matches!(event, Event::Sync | Event::End) {
+            closers[current[at]].push(at);
+        }
+    }
+    closers
 }
 
 /// "Strand 0 is the root's first. Spawn begins the child's first strand, end begins the parent's next. Sync begins one if it has
