@@ -31,7 +31,7 @@ pub fn wound(random: &mut Random, draft: &mut Draft) {
             replace(random, draft, bad);
         }
         9 => {
-            let record = random.pick(&[draft.records, draft.records + 1, u32::from(u16::MAX)]) as u16;
+            let record = random.pick(&[draft.records, draft.records.saturating_add(1), u32::from(u16::MAX)]) as u16;
             let access = random.pick(&[read(record), write(record)]);
             replace(random, draft, access);
         }

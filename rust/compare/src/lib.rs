@@ -6,8 +6,8 @@ pub mod damage;
 pub mod differ;
 #[cfg(feature = "rattle")]
 pub mod ffi;
+pub mod files;
 pub mod jobs;
-pub mod limits;
 pub mod program;
 pub mod random;
 pub mod script;

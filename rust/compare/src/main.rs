@@ -1,10 +1,8 @@
 //! The comparison from the command line; the seed and the count say which files, the tally at the end says what they were.
 
 use compare::calls::{Calls, Second};
-use compare::damage::damaged;
 use compare::differ::Sides;
-use compare::jobs::job;
-use compare::limits::limits;
+use compare::files::{generated, limits};
 use compare::program;
 use compare::random::Random;
 use compare::shrink::shrink;
@@ -80,9 +78,7 @@ fn run(options: &Options) -> Result<bool, String> {
     }
     let mut told = Instant::now();
     for number in options.first..options.first + options.count {
-        let mut random = Random::of_file(options.seed, number);
-        let file = if random.percent(60) { job(&mut random).file() } else { damaged(&mut random) };
-        if !compared.agree(&format!("file {number}"), number, &file)? {
+        if !compared.agree(&format!("file {number}"), number, &generated(options.seed, number))? {
             return Ok(false);
         }
         if told.elapsed() > Duration::from_secs(2) {

@@ -1,23 +1,12 @@
 //! The comparison itself: the second program agrees with itself on files that show everything, and each flaw is found.
 
 use compare::calls::{Calls, Second};
-use compare::damage::damaged;
 use compare::differ::Sides;
-use compare::jobs::job;
-use compare::limits::limits;
+use compare::files::{generated, limits};
 use compare::random::Random;
 use compare::tally::Tally;
 
 const SEED: u64 = 11;
-
-fn file(number: u64) -> Vec<u8> {
-    let mut random = Random::of_file(SEED, number);
-    if random.percent(60) {
-        job(&mut random).file()
-    } else {
-        damaged(&mut random)
-    }
-}
 
 #[test]
 fn the_files_of_a_run_show_everything() {
@@ -26,7 +15,11 @@ fn the_files_of_a_run_show_everything() {
         assert_eq!(sides.difference(&mut Random::of_file(SEED, number as u64), file), None, "{what}");
     }
     for number in 0..600 {
-        assert_eq!(sides.difference(&mut Random::of_file(SEED, number), &file(number)), None, "file {number}");
+        assert_eq!(
+            sides.difference(&mut Random::of_file(SEED, number), &generated(SEED, number)),
+            None,
+            "file {number}"
+        );
     }
     let Tally { refusals, clean, races, relations, respaced, most_strands, written, .. } = sides.tally;
     let unseen: Vec<usize> = (1..19).filter(|&number| number != 17 && refusals[number] < 3).collect();
@@ -109,8 +102,8 @@ fn each_flaw_is_found() {
     for flaw in flaws {
         let flawed = Flawed(flaw);
         let mut sides = Sides { one: &Second, other: &flawed, tally: Tally::default() };
-        let found =
-            (0..2000).any(|number| sides.difference(&mut Random::of_file(SEED, number), &file(number)).is_some());
+        let found = (0..2000)
+            .any(|number| sides.difference(&mut Random::of_file(SEED, number), &generated(SEED, number)).is_some());
         assert!(found, "{flaw}");
     }
 }

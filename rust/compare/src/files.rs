@@ -1,6 +1,8 @@
-//! The files that every run tries first: the rules' small jobs, and jobs at and just past each limit.
+//! The files of a run: first the rules' small jobs and jobs at and just past each limit, then generated and damaged ones.
 
-use crate::jobs::Draft;
+use crate::damage::damaged;
+use crate::jobs::{self, Draft};
+use crate::random::Random;
 use crate::script::{read, write, END, SPAWN, SYNC};
 
 const SMALL_JOBS: [&str; 11] = [
@@ -17,7 +19,17 @@ const SMALL_JOBS: [&str; 11] = [
     "name \"L4\" records 2: W0 S R0 W1 E R0 W1 J",
 ];
 
-/// The files, each with what it is.
+/// A generated file of a seed, by its number: accepted, or damaged for the most part.
+pub fn generated(seed: u64, number: u64) -> Vec<u8> {
+    let mut random = Random::of_file(seed, number);
+    if random.percent(60) {
+        jobs::job(&mut random).file()
+    } else {
+        damaged(&mut random)
+    }
+}
+
+/// The files at the limits, each with what it is.
 pub fn limits() -> Vec<(String, Vec<u8>)> {
     let mut files = Vec::new();
     for text in SMALL_JOBS {
