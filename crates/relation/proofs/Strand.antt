@@ -196,6 +196,18 @@ module _ (ev : ℕ → Event) where
       go (no new) (inl e) ih = absurd (omega arith)
       go (no new) (inr e) ih = rw (birth-new n s (omega arith)) (omega arith)
 
+  -- and nowhere before
+  pub birth-first : (n s : ℕ) → s < begunAt ev n → (m : ℕ) → m < birth ev n s → strandAt ev m < s
+  unfolding birth
+  birth-first zero s l m h = absurd (omega arith)
+  birth-first (suc n) s l m h = go (decLe (suc s) (begunAt ev n)) (λ old. birth-first n s old m)
+    where
+      go : Dec (s < begunAt ev n) → (s < begunAt ev n → m < birth ev n s → strandAt ev m < s) → strandAt ev m < s
+      go (yes old) ih = ih old (rw (birth-old n s old) at h)
+      go (no new) ih =
+          let behind : m < suc n = rw (birth-new n s (omega arith)) at h in
+          omega (arith, begun-some m, begun-rises m n (omega arith))
+
   pub birth-early : (n s : ℕ) → birth ev n s ≤ n
   unfolding birth
   birth-early zero s = omega arith
