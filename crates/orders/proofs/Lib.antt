@@ -1,0 +1,10 @@
+pub mod Lists
+pub mod Respaced
+pub mod Links
+pub mod Labels
+pub mod Counting
+pub mod Entries
+pub mod Held
+pub mod Apart
+pub mod History
+pub mod Values

@@ -1,0 +1,5 @@
+pub mod Search
+pub mod Race
+pub mod Places
+pub mod Verdict
+pub mod Shown

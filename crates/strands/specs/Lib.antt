@@ -1,0 +1,5 @@
+pub mod Cells
+pub mod Orders
+pub mod Frames
+pub mod States
+pub mod Standing
