@@ -2,7 +2,7 @@
 -- The events that opened the open tasks say, at an end, which task it closes; from them the walk's answer true gets its spawn and its
 -- end. The other way round the walker, at the end of the task that the definition names, stands at height 0 and turns true, and no
 -- event of the parent turns it back. Assumes nothing.
-use mathlib.Core.Path.{_≡_, refl, sym, ap, _∙_, subst}
+use mathlib.Core.Path.{_≡_, refl, sym, _∙_, subst}
 use mathlib.Core.Logic.{⊎-elim, _≢_, _↔_}
 use mathlib.Core.Bool.{Bool, true, false, false≢true}
 use mathlib.Core.List.{List, [], _∷_}
@@ -13,7 +13,7 @@ use Rattle.jobfile.specs.Trace.{depthAt, tasksAt}
 use Rattle.jobfile.specs.declared.coding.Event.{Event}
 use Rattle.jobfile.specs.declared.coding.Event.the-variants.{Spawn, End, Sync, Read, Write}
 use Rattle.relation.specs.Parallel.{By, Parallel, Rooted}
-use Rattle.relation.specs.Walk.{isSpawn, Move, moveOf, restack, headOr, Walker, moved, move, start, opened, spawned, moveAt, walk, par}
+use Rattle.relation.specs.Walk.{isSpawn, Move, moveOf, restack, headOr, moved, move, opened, spawned, moveAt, walk, par}
 use Rattle.relation.proofs.Depth.{bump, depth-at, last-or}
 use Rattle.relation.proofs.Walk.{from, walk-start, walk-step, par-step}
 

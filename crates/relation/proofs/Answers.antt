@@ -11,7 +11,6 @@ use Rattle.jobfile.specs.declared.coding.Event.{Event}
 use Rattle.relation.specs.Between.{Walkable}
 use Rattle.relation.specs.Question.{isAccess, compareOf, askedOf}
 use Rattle.relation.specs.Walk.{par}
-use Rattle.relation.specs.declared.Answer.{Answer}
 use Rattle.relation.specs.declared.Answer.the-variants.{Same, Before, After, Parallel, Refused}
 
 -- the events between two numbers below the count can be walked

@@ -5,7 +5,7 @@ use mathlib.Core.Bool.{Bool, true, false}
 use Prim.Native.Nat.{ℕ, zero, suc, _+_, _-_, _≤_, _<_}
 use native.Mathlib.Omega.{arith}
 use native.Mathlib.Numerals.{add-one}
-use Rattle.relation.specs.Walk.{Walker, moved, up, down, join}
+use Rattle.relation.specs.Walk.{moved, up, down, join}
 
 module _ (h : ℕ) (b : Bool) where
   pub moved-up : record { height = h + 1; par = b } ≡ moved up h b

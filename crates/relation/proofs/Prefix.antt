@@ -3,7 +3,7 @@ use mathlib.Core.Path.{_≡_, refl, sym, ap, _∙_}
 use mathlib.Core.List.{List, [], _∷_}
 use Prim.Native.Nat.{ℕ, zero, suc, _≤_, _<_}
 use native.Mathlib.Omega.{arith}
-use Rattle.jobfile.specs.Trace.{tasksAt, begunAt, begins}
+use Rattle.jobfile.specs.Trace.{tasksAt, begunAt}
 use Rattle.jobfile.specs.declared.coding.Event.{Event}
 use Rattle.jobfile.specs.declared.coding.Event.the-variants.{Spawn, End, Sync, Read, Write}
 use Rattle.relation.specs.Walk.{isSpawn, moveOf, restack, headOr, move, opened, moveAt, walk}

@@ -5,7 +5,7 @@ use mathlib.Core.Path.{_≡_, refl, sym, ap, _∙_}
 use mathlib.Core.Logic.{_⊎_, inl, inr}
 use mathlib.Core.Bool.{Bool, true, false, false≢true}
 use mathlib.Core.List.{List, [], _∷_}
-use Prim.Native.Nat.{ℕ, zero, suc, _+_, _-_, _≤_, _<_}
+use Prim.Native.Nat.{ℕ, zero, suc, _-_, _≤_, _<_}
 use native.Mathlib.Omega.{arith}
 use native.Mathlib.Decide.{decLe}
 use borrow.Author.Tests.{lt-ltb, le-ltb}
@@ -195,6 +195,18 @@ module _ (ev : ℕ → Event) where
       go (yes old) k ih = rw (birth-old n s old) (ih old)
       go (no new) (inl e) ih = absurd (omega arith)
       go (no new) (inr e) ih = rw (birth-new n s (omega arith)) (omega arith)
+
+  -- and nowhere before
+  pub birth-first : (n s : ℕ) → s < begunAt ev n → (m : ℕ) → m < birth ev n s → strandAt ev m < s
+  unfolding birth
+  birth-first zero s l m h = absurd (omega arith)
+  birth-first (suc n) s l m h = go (decLe (suc s) (begunAt ev n)) (λ old. birth-first n s old m)
+    where
+      go : Dec (s < begunAt ev n) → (s < begunAt ev n → m < birth ev n s → strandAt ev m < s) → strandAt ev m < s
+      go (yes old) ih = ih old (rw (birth-old n s old) at h)
+      go (no new) ih =
+          let behind : m < suc n = rw (birth-new n s (omega arith)) at h in
+          omega (arith, begun-some m, begun-rises m n (omega arith))
 
   pub birth-early : (n s : ℕ) → birth ev n s ≤ n
   unfolding birth

@@ -63,6 +63,6 @@ module _ (ev : ℕ → Event) where
       (rw walk-start (inl (omega arith, e)))
       (λ n jn ih. rw (walk-step i n (omega arith), walk-step j n jn) (inv-next c (moveAt ev n) (walk ev i n) (walk ev j n) ih))
 
-  -- T1 is c = false, T2 is c = true
+  -- with c = false before is transitive, with c = true parallel is
   pub par-trans : (c : Bool) (i j k : ℕ) → i ≤ j → j ≤ k → par ev i j ≡ c → par ev j k ≡ c → par ev i k ≡ c
   par-trans c i j k ij jk e f = inv-end c (walk ev i k) (walk ev j k) (side-by-side c i j ij e k jk) f

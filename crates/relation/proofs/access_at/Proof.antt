@@ -15,7 +15,9 @@ is-access-requires : tie.Need-is-access-requires
 is-access-requires c κs = search needs
 
 returns-2 : tie.Need-returns-2
-returns-2 c = access-below _ _ (c .before .event-at .result) _ (c .is-access .result) (c .before .before .if1 .left) (c .before .event-at .ensures) (c .is-access .ensures)
+returns-2 c =
+    access-below _ _ (c .before .event-at .result) _ (c .is-access .result) (c .before .before .if1 .left) (c .before .event-at .ensures)
+    (c .is-access .ensures)
 
 pub access-at-spec : {M : Type 1} → statement M
 access-at-spec = tie.close (tie.spec returns event-at-requires is-access-requires returns-2)

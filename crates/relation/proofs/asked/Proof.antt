@@ -11,14 +11,18 @@ use borrow.Author.Needs.{needs}
 use Rattle.relation.proofs.asked.Statement.{statement}
 use Rattle.relation.proofs.asked.Tie as tie
 
--- what the first test says, in the definition's words
-below : (v : Bool) (c : tie.After-both) → c .both .result ≡ v → (ltb (c .before .before .args .i) (c .before .before .args .count) && ltb (c .before .before .args .j) (c .before .before .args .count)) ≡ v
+-- the test of both numbers, in the definition's words
+below : (v : Bool) (c : tie.After-both) → c .both .result ≡ v
+    → let S = c .before .before in
+    (ltb (S .args .i) (S .args .count) && ltb (S .args .j) (S .args .count)) ≡ v
 below v c e = sym (c .both .ensures) ∙ e
 
--- and the second
+-- and of both events
 tested : (v : Bool) (c : tie.After-both2) → c .both2 .result ≡ v
     → let S = c .before .before .before .before .before in
-    ((ltb (S .args .i) (S .args .count) && isAccess (eventAt (S .args .part .now) (S .args .i))) && (ltb (S .args .j) (S .args .count) && isAccess (eventAt (S .args .part .now) (S .args .j)))) ≡ v
+    let ev = eventAt (S .args .part .now) in
+    ((ltb (S .args .i) (S .args .count) && isAccess (ev (S .args .i)))
+    && (ltb (S .args .j) (S .args .count) && isAccess (ev (S .args .j)))) ≡ v
 tested v c e = both-told (c .before .before .access-at .ensures) (c .before .access-at2 .ensures) (c .both2 .ensures) e
 
 both-requires : tie.Need-both-requires
@@ -38,8 +42,8 @@ refuse-requires c κs = search needs
 
 returns : tie.Need-returns
 returns c =
-    ap Refused (c .refuse .ensures)
-    ∙ sym (asked-over _ _ _ _ (below false (c .before .before .before .before .before) (not-true (c .before .before .before .before .before .both .result) (c .before .if1 .taken))))
+    let b = c .before .before .before .before .before in
+    ap Refused (c .refuse .ensures) ∙ sym (asked-over _ _ _ _ (below false b (not-true (b .both .result) (c .before .if1 .taken))))
 
 refuse-requires-2 : tie.Need-refuse-requires-2
 refuse-requires-2 c κs = search needs
@@ -47,8 +51,9 @@ refuse-requires-2 c κs = search needs
 returns-2 : tie.Need-returns-2
 returns-2 c =
     let t = c .before .before .before in
+    let b = t .before .before .before in
     ap Refused (c .refuse2 .ensures)
-    ∙ sym (asked-no-access _ _ _ _ (below true (t .before .before .before) (not-false (t .before .before .before .both .result) (c .before .before .if1 .left)))
+    ∙ sym (asked-no-access _ _ _ _ (below true b (not-false (b .both .result) (c .before .before .if1 .left)))
     (tested false t (not-true (t .both2 .result) (c .before .if2 .taken))))
 
 compare-requires : tie.Need-compare-requires
@@ -59,8 +64,9 @@ compare-requires c κs =
 returns-3 : tie.Need-returns-3
 returns-3 c =
     let t = c .before .before .before in
+    let b = t .before .before .before in
     c .compare .ensures
-    ∙ sym (asked-accesses _ _ _ _ (below true (t .before .before .before) (not-false (t .before .before .before .both .result) (c .before .before .if1 .left)))
+    ∙ sym (asked-accesses _ _ _ _ (below true b (not-false (b .both .result) (c .before .before .if1 .left)))
     (tested true t (not-false (t .both2 .result) (c .before .if2 .left))))
 
 pub asked-spec : {M : Type 1} → statement M

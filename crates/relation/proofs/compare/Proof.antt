@@ -9,7 +9,9 @@ returns : tie.Need-returns
 returns c = sym (compare-same _ _ _ (c .if1 .taken))
 
 parallel-requires : tie.Need-parallel-requires
-parallel-requires c κs = walkable-between _ (c .before .before .before .args .count) _ _ (c .before .before .before .pre .0) (omega arith) (omega arith)
+parallel-requires c κs =
+    let S = c .before .before .before in
+    walkable-between _ (S .args .count) _ _ (S .pre .0) (omega arith) (omega arith)
 
 returns-2 : tie.Need-returns-2
 returns-2 c = sym (compare-parallel _ _ _ (c .before .before .if2 .taken) (sym (c .before .parallel .ensures) ∙ c .if3 .taken))
@@ -18,7 +20,9 @@ returns-3 : tie.Need-returns-3
 returns-3 c = sym (compare-before _ _ _ (c .before .before .if2 .taken) (sym (c .before .parallel .ensures) ∙ c .if3 .left))
 
 parallel-requires-2 : tie.Need-parallel-requires-2
-parallel-requires-2 c κs = walkable-between _ (c .before .before .before .args .count) _ _ (c .before .before .before .pre .0) (omega arith) (omega arith)
+parallel-requires-2 c κs =
+    let S = c .before .before .before in
+    walkable-between _ (S .args .count) _ _ (S .pre .0) (omega arith) (omega arith)
 
 returns-4 : tie.Need-returns-4
 returns-4 c = sym (compare-parallel-back _ _ _ (omega arith) (sym (c .before .parallel2 .ensures) ∙ c .if4 .taken))

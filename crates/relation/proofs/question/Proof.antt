@@ -1,8 +1,9 @@
--- `relation::question` meets its contract: the check's answer picks the case, and an accepted file's events can be walked. Assumes nothing.
+-- `relation::question` meets its contract: the check's answer picks the case, and an accepted file's events can be walked.
+-- Assumes nothing.
 use Prim.Native.Nat.{_*_}
 use borrow.Author.Needs.{needs}
 use lib.ListN.{length}
-use mathlib.Core.Path.{_≡_, sym, ap, _∙_}
+use mathlib.Core.Path.{sym, _∙_}
 use native.Mathlib.Nat.{add-sub-cancel-left}
 use native.Mathlib.Omega.{arith}
 use Rattle.jobfile.specs.File.{CheckFits}
@@ -11,8 +12,9 @@ use Rattle.relation.proofs.Files.{question-unread, question-asked, walk
 use Rattle.relation.proofs.question.Statement.{statement}
 use Rattle.relation.proofs.question.Tie as tie
 
--- the bounds of an accepted file
-fits : (c : tie.After-struct-known) → CheckFits (Accepted (c .before .before .job .given .0 .0)) (length (c .before .before .before .before .before .before .args .file .now))
+-- the file's bounds, where it is accepted
+fits : (c : tie.After-struct-known)
+    → CheckFits (Accepted (c .before .before .job .given .0 .0)) (length (c .before .before .before .before .before .before .args .file .now))
 fits c = rw (c .before .before .job .given .1) at (c .before .before .before .before .check .ensures .1)
 
 check-requires : tie.Need-check-requires
@@ -41,10 +43,10 @@ part-asked-end c = omega (arith, fits c)
 
 asked-requires : tie.Need-asked-requires
 asked-requires c κs =
-    let file = c .before .before .before .before .before .before .before .args .file .now in
-    let job = c .before .before .before .job .given .0 .0 in
+    let told = c .before .before .before in
+    let job = told .job .given .0 .0 in
     rw (add-sub-cancel-left (job .start) (4 * job .events))
-    (walkable-file file job (sym (c .before .before .before .before .before .check .ensures .0) ∙ c .before .before .before .job .given .1))
+    (walkable-file (told .before .before .before .before .args .file .now) job (sym (told .before .before .check .ensures .0) ∙ told .job .given .1))
 
 returns : tie.Need-returns
 returns c =
@@ -52,9 +54,10 @@ returns c =
 
 returns-2 : tie.Need-returns-2
 returns-2 c =
-    let job = c .before .before .before .before .job .given .0 .0 in
+    let told = c .before .before .before .before in
+    let job = told .job .given .0 .0 in
     (rw (add-sub-cancel-left (job .start) (4 * job .events)) at (c .asked .ensures))
-    ∙ sym (question-asked _ job (sym (c .before .before .before .before .before .before .check .ensures .0) ∙ c .before .before .before .before .job .given .1) _ _)
+    ∙ sym (question-asked _ job (sym (told .before .before .check .ensures .0) ∙ told .job .given .1) _ _)
 
 pub question-spec : {M : Type 1} → statement M
 question-spec =

@@ -1,5 +1,6 @@
 -- `relation::between::moved` meets its contract: in each arm the event is known, and the test of the height picks the case of the move.
 -- Assumes nothing.
+use Prim.Native.Nat.{_≤_, _<_}
 use native.Mathlib.Omega.{arith}
 use Rattle.relation.proofs.Moves.{moved-up, moved-out, moved-down, moved-joined, moved-past}
 use borrow.Author.Needs.{needs}
@@ -25,7 +26,9 @@ enum-told-3 : tie.Need-enum-told-3
 enum-told-3 c = search needs
 
 returns-2 : tie.Need-returns-2
-returns-2 c = (rw (c .before .before .enum-told3 .given .1) (moved-past _ _ (c .if2 .taken)), omega arith)
+returns-2 c =
+    let above : 0 < c .before .before .before .before .args .w .height = omega arith in
+    (rw (c .before .before .enum-told3 .given .1) (moved-past _ _ above), omega arith)
 
 enum-told-4 : tie.Need-enum-told-4
 enum-told-4 c = search needs
@@ -40,7 +43,9 @@ returns-4 : tie.Need-returns-4
 returns-4 c = (rw (c .before .before .before .enum-told2 .given .1) (moved-down _ _ (c .before .if1 .left)), omega arith)
 
 returns-5 : tie.Need-returns-5
-returns-5 c = (rw (c .before .before .enum-told3 .given .1) (moved-joined _ _ (c .if2 .left)), omega arith)
+returns-5 c =
+    let low : c .before .before .before .before .args .w .height ≤ 0 = omega arith in
+    (rw (c .before .before .enum-told3 .given .1) (moved-joined _ _ low), omega arith)
 
 returns-6 : tie.Need-returns-6
 returns-6 c = (rw (c .enum-told4 .given .1), omega arith)

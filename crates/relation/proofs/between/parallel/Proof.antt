@@ -6,7 +6,7 @@ use native.Mathlib.Omega.{arith}
 use borrow.Author.Needs.{needs}
 use Rattle.jobfile.specs.Trace.{eventAt}
 use Rattle.relation.specs.Between.{walkerOf}
-use Rattle.relation.specs.Walk.{Walker, walk}
+use Rattle.relation.specs.Walk.{walk}
 use Rattle.relation.proofs.Spawned.{walk-next}
 use Rattle.relation.proofs.Walk.{walk-start}
 use Rattle.relation.proofs.between.parallel.Statement.{statement}
