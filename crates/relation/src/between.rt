@@ -6,9 +6,8 @@ ghost use lib.ListN.{length};
 ghost use Rattle.jobfile.specs.Trace.{eventAt};
 ghost use Rattle.relation.specs.Walk.{moveOf, move, par};
 ghost use Rattle.relation.specs.Between.{walkerOf, Walkable};
-use jobfile::Decoded;
 use jobfile::Event;
-use jobfile::decode;
+use jobfile::event_at;
 
 // How far the current task lies under the innermost open task that contained the start, and
 // whether the start is parallel to where the walk stands.
@@ -33,18 +32,6 @@ pub fn parallel(part: &[u8], p: usize, q: usize) -> bool
         n += 1;
     }
     w.par
-}
-
-// Event number n. Bytes that are refused stand for a sync; an accepted file shows none.
-// requires: the event's four bytes are there.
-pub fn event_at(part: &[u8], n: usize) -> Event
-    requires { ⌜ 4 * n + 4 ≤ length (now part) ⌝ }
-    ensures { λ r. ⌜ r ≡ eventAt (now (part .entry)) n ⌝ }
-{
-    match decode(part, 4 * n) {
-        Decoded::Event(e) => e,
-        Decoded::Refused(_) => Event::Sync,
-    }
 }
 
 // One event further. Every task that an end closes was spawned.

@@ -11,12 +11,12 @@ ghost use lib.Dec.{ltb};
 ghost use Rattle.jobfile.specs.Trace.{eventAt};
 ghost use Rattle.relation.specs.Between.{Walkable};
 ghost use Rattle.relation.specs.Question.{questionOf, askedOf, compareOf, isAccess};
-use between::event_at;
 use between::parallel;
 use jobfile::Checked;
 use jobfile::Event;
 use jobfile::Refusal;
 use jobfile::check;
+use jobfile::event_at;
 use jobfile::refuse;
 
 // How the first of two accesses stands to the second.
