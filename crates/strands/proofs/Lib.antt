@@ -6,3 +6,5 @@ pub mod Orders
 pub mod Hebrew
 pub mod Labels
 pub mod Cases
+pub mod States
+pub mod Bound
