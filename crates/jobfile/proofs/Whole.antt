@@ -18,7 +18,7 @@ use Rattle.jobfile.specs.declared.Checked.the-variants.{Accepted, Refuse
 use Rattle.jobfile.specs.Refusals.{refusalOf}
 use Rattle.jobfile.specs.Trailer.{mark, startsWith, printable, wordAt, trailerFault, headNamed, headSized, headOf, HeadFits}
 use Rattle.jobfile.specs.Tasks.{traceOf}
-use Rattle.jobfile.specs.File.{eventsFrom, checkOf, afterTrace, afterHead}
+use Rattle.jobfile.specs.File.{eventsFrom, eventPart, checkOf, afterTrace, afterHead}
 use Rattle.jobfile.specs.Accepted.{AcceptedTrace}
 use Rattle.jobfile.proofs.Accepted.{accepted-trace}
 
@@ -137,3 +137,6 @@ module _ (file : List ℕ) where
       let f = accepted-fits j e in
       accepted-trace (j .records) (j .strands) (j .events) (eventsFrom file (j .start) (j .events))
       (length-take-le (4 * j .events) (drop (j .start) file) (omega (arith, length-drop (j .start) file))) (behind j e .trace)
+
+  pub accepted-part : (j : Job) → checkOf file ≡ Accepted j → AcceptedTrace (j .records) (j .events) (j .strands) (eventPart file)
+  accepted-part j e = rw e (accepted j e)

@@ -1,0 +1,3 @@
+pub mod Course
+pub mod Demands
+pub mod Once
