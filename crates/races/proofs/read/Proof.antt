@@ -1,0 +1,76 @@
+-- `read` meets its contract: the answers of the two questions say which way the read goes. Assumes nothing.
+use mathlib.Core.Path.{refl, sym, _∙_}
+use Rattle.jobfile.specs.declared.coding.Event.the-variants.{Read}
+use Rattle.races.proofs.Accesses.{last-write-askable, standing-read-askable, last-write-found, read-taken, read-left}
+use borrow.Author.Needs.{needs}
+use Rattle.races.proofs.read.Statement.{statement}
+use Rattle.races.proofs.read.Tie as tie
+
+meets-requires : tie.Need-meets-requires
+meets-requires c κs = last-write-askable _ _ _ _ _ _ (c .before .before .before .pre)
+
+mul-wide : tie.Need-mul-wide
+mul-wide c = search needs
+
+slice-read-wide : tie.Need-slice-read-wide
+slice-read-wide c = search needs
+
+wide-requires : tie.Need-wide-requires
+wide-requires c κs = search needs
+
+same-length : tie.Need-same-length
+same-length c = search needs
+
+returns : tie.Need-returns
+returns c = rw (c .wide .ensures) (last-write-found _ _ _ _ _ (Read _) refl refl (sym (c .before .before .before .meets .ensures) ∙ c .before .before .if1 .taken))
+
+add-meets : tie.Need-add-meets
+add-meets c = search needs
+
+meets-requires-2 : tie.Need-meets-requires-2
+meets-requires-2 c κs = standing-read-askable _ _ _ _ _ _ (c .before .before .before .before .before .before .pre)
+
+same-length-2 : tie.Need-same-length-2
+same-length-2 c = search needs
+
+returns-2 : tie.Need-returns-2
+returns-2 c = read-left _ _ _ _ _ (sym (c .before .before .before .before .meets .ensures) ∙ c .before .before .before .if1 .left) (sym (c .before .meets2 .ensures) ∙ c .if2 .taken)
+
+add-put : tie.Need-add-put
+add-put c = search needs
+
+cast-put : tie.Need-cast-put
+cast-put c = search needs
+
+cast-put-2 : tie.Need-cast-put-2
+cast-put-2 c = search needs
+
+put-requires : tie.Need-put-requires
+put-requires c κs = search needs
+
+same-length-3 : tie.Need-same-length-3
+same-length-3 c = search needs
+
+returns-3 : tie.Need-returns-3
+returns-3 c = rw (c .before .before .put .ensures) (read-taken _ _ _ _ _ (sym (c .before .before .before .before .before .before .before .before .meets .ensures) ∙ c .before .before .before .before .before .before .before .if1 .left) (sym (c .before .before .before .before .before .meets2 .ensures) ∙ c .before .before .before .before .if2 .left))
+
+pub read-spec : {M : Type 1} → statement M
+read-spec =
+    tie.close
+    (tie.spec
+    meets-requires
+    mul-wide
+    slice-read-wide
+    wide-requires
+    same-length
+    returns
+    add-meets
+    meets-requires-2
+    same-length-2
+    returns-2
+    add-put
+    cast-put
+    cast-put-2
+    put-requires
+    same-length-3
+    returns-3)
