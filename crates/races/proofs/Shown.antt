@@ -1,6 +1,6 @@
 -- The places show the events before n (`Shown`): so they do before any event once they are emptied, and what an access that does not
 -- race puts there makes them show one event more. The four entries of each record are two rows (`Row`). Assumes nothing.
-use mathlib.Core.Path.{_≡_, refl, sym, ap, _∙_}
+use mathlib.Core.Path.{_≡_, refl, sym, _∙_}
 use mathlib.Core.Logic.{_≢_}
 use mathlib.Core.List.{List}
 use mathlib.Core.Bool.{Bool, true, false, false≢true}
@@ -14,7 +14,6 @@ use borrow.Author.Tests.{eqb-true, eqb-false}
 use Rattle.jobfile.specs.declared.coding.Event.{Event}
 use Rattle.jobfile.specs.declared.coding.Event.the-variants.{Read, Write}
 use Rattle.relation.specs.Strand.{strandAt}
-use Rattle.races.specs.Race.{recordOf}
 use Rattle.races.specs.Places.{holds, stood, parTo, lastWrite, standing}
 use Rattle.races.specs.Shown.{Shown, Judgeable}
 use Rattle.races.specs.Entries.{put}
@@ -22,11 +21,11 @@ use Rattle.races.proofs.Places.{Kept, last-write-next, standing-next, e
 use Rattle.races.proofs.Entries.{put-length, put-other, Row, row-put, row-apart, row-same}
 
 -- a read comes to stand just where nothing parallel to it stands
-pub stood-new : (test : ℕ → Bool) (n : ℕ) (o : Option ℕ) → holds test o ≡ false → stood test n o ≡ some n
+stood-new : (test : ℕ → Bool) (n : ℕ) (o : Option ℕ) → holds test o ≡ false → stood test n o ≡ some n
 stood-new test n none f = refl
 stood-new test n (some s) f = rw f
 
-pub stood-old : (test : ℕ → Bool) (n : ℕ) (o : Option ℕ) → holds test o ≡ true → stood test n o ≡ o
+stood-old : (test : ℕ → Bool) (n : ℕ) (o : Option ℕ) → holds test o ≡ true → stood test n o ≡ o
 stood-old test n none t = absurd (false≢true t)
 stood-old test n (some s) t = rw t
 
@@ -94,51 +93,61 @@ module _ (ev : ℕ → Event) where
       ∙ S .others i (λ r l. o r (omega arith)))
       (put-length Q (8192 + k) 4294967295 4294967295 ∙ put-length P k 4294967295 4294967295 ∙ S .size)
 
-  -- An access that may be judged, and does not race.
-  module _ (n records : ℕ) (P₀ P L : List ℕ) (r at strand : ℕ) where
-    -- one place of the record is put: the entries of no record stay, and so does the length
-    put-shown : (p event strand′ : ℕ) → Shown ev n records P₀ P → ((i : ℕ) → Outside records i → (i ≢ p) × (i ≢ p + 4096))
-        → Row ev 0 records (writesAt (suc n)) (put P p event strand′) → Row ev 8192 records (readsAt (suc n)) (put P p event strand′)
-        → Shown ev (suc n) records P₀ (put P p event strand′)
-    put-shown p event strand′ S inside writes reads =
-        rows-shown (suc n) records P₀ (put P p event strand′) writes reads
-        (λ i o. put-other P p event strand′ i (inside i o .0) (inside i o .1) ∙ S .others i o) (put-length P p event strand′ ∙ S .size)
+  -- one place is put: the entries of no record stay, and so does the length
+  put-shown : (n records : ℕ) (P₀ P : List ℕ) (p event strand : ℕ) → Shown ev n records P₀ P
+      → ((i : ℕ) → Outside records i → (i ≢ p) × (i ≢ p + 4096))
+      → Row ev 0 records (writesAt (suc n)) (put P p event strand) → Row ev 8192 records (readsAt (suc n)) (put P p event strand)
+      → Shown ev (suc n) records P₀ (put P p event strand)
+  put-shown n records P₀ P p event strand S inside writes reads =
+      rows-shown (suc n) records P₀ (put P p event strand) writes reads
+      (λ i o. put-other P p event strand i (inside i o .0) (inside i o .1) ∙ S .others i o) (put-length P p event strand ∙ S .size)
 
-    -- a write becomes the last one
-    pub write-shown : Judgeable ev n records P₀ P L (Write r) r at strand → Shown ev (suc n) records P₀ (put P r at strand)
-    write-shown J =
-        let apart = row-apart ev 8192 records (readsAt n) P (shown-reads n records P₀ P (J .shown)) r n (strandAt ev n)
-        (λ q l. (omega arith, omega arith, omega arith, omega arith))
+-- An access that may be judged, and does not race: what it makes of the places.
+module _ {ev : ℕ → Event} {n records : ℕ} {P₀ P L : List ℕ} {r at strand : ℕ} where
+  -- a write becomes the last one
+  pub write-shown : Judgeable ev n records P₀ P L (Write r) r at strand → Shown ev (suc n) records P₀ (put P r at strand)
+  write-shown J =
+      let writes = shown-writes ev n records P₀ P (J .shown) in
+      let reads =
+          row-apart ev 8192 records (readsAt ev n) P (shown-reads ev n records P₀ P (J .shown)) r n (strandAt ev n)
+          (λ q l. (omega arith, omega arith, omega arith, omega arith))
+      in
+      rw (J .number, J .strand-is)
+      (put-shown ev n records P₀ P r n (strandAt ev n) (J .shown) (λ i o. let d = o r (J .on-record) in (d .0, omega arith))
+      (rw zero-add at (row-put ev 0 records (writesAt ev n) P writes r records (writesAt ev (suc n)) (some n)
+      (write-takes ev r n (J .event) .0) (λ q l d. (l, elsewhere-keeps ev q n (λ e. d (sym (rw (J .event) at e))) .same-write))
+      (omega arith) (J .records-fit) (omega arith)))
+      (row-same ev 8192 records (readsAt ev n) (put P r n (strandAt ev n)) reads (readsAt ev (suc n)) (λ q. standing-next ev q n ∙ rw (J .event))))
+
+  module _ (J : Judgeable ev n records P₀ P L (Read r) r at strand) where
+    same-writes : (q : ℕ) → lastWrite ev q (suc n) ≡ lastWrite ev q n
+    same-writes q = last-write-next ev q n ∙ rw (J .event)
+
+    -- a read comes to stand where nothing parallel to it does
+    pub read-shown : holds (parTo ev n) (standing ev r n) ≡ false → Shown ev (suc n) records P₀ (put P (8192 + r) at strand)
+    read-shown f =
+        let reads = shown-reads ev n records P₀ P (J .shown) in
+        let writes =
+            row-apart ev 0 records (writesAt ev n) P (shown-writes ev n records P₀ P (J .shown)) (8192 + r) n (strandAt ev n)
+            (λ q l. (omega arith, omega arith, omega arith, omega arith))
         in
         rw (J .number, J .strand-is)
-        (put-shown r n (strandAt ev n) (J .shown) (λ i o. let d = o r (J .on-record) in (d .0, omega arith))
-        (rw zero-add at (row-put ev 0 records (writesAt n) P (shown-writes n records P₀ P (J .shown)) r records (writesAt (suc n)) (some n)
-        (write-takes ev r n (J .event) .0) (λ q l d. (l, elsewhere-keeps ev q n (λ e. d (sym (rw (J .event) at e))) .same-write))
-        (omega arith) (J .records-fit) (omega arith)))
-        (row-same ev 8192 records (readsAt n) (put P r n (strandAt ev n)) apart (readsAt (suc n)) (λ q. standing-next ev q n ∙ rw (J .event))))
+        (put-shown ev n records P₀ P (8192 + r) n (strandAt ev n) (J .shown) (λ i o. let d = o r (J .on-record) in (d .2, omega arith))
+        (row-same ev 0 records (writesAt ev n) (put P (8192 + r) n (strandAt ev n)) writes (writesAt ev (suc n)) same-writes)
+        (row-put ev 8192 records (readsAt ev n) P reads r records (readsAt ev (suc n)) (some n)
+        (read-takes ev r n (J .event) .1 ∙ stood-new (parTo ev n) n (standing ev r n) f)
+        (λ q l d. (l, elsewhere-keeps ev q n (λ e. d (sym (rw (J .event) at e))) .same-read)) (omega arith) (J .records-fit) (omega arith)))
 
-    module _ (J : Judgeable ev n records P₀ P L (Read r) r at strand) where
-      -- a read that nothing parallel to it stands against comes to stand
-      pub read-shown : holds (parTo ev n) (standing ev r n) ≡ false → Shown ev (suc n) records P₀ (put P (8192 + r) at strand)
-      read-shown f =
-          let apart = row-apart ev 0 records (writesAt n) P (shown-writes n records P₀ P (J .shown)) (8192 + r) n (strandAt ev n)
-          (λ q l. (omega arith, omega arith, omega arith, omega arith))
-          in
-          rw (J .number, J .strand-is)
-          (put-shown (8192 + r) n (strandAt ev n) (J .shown) (λ i o. let d = o r (J .on-record) in (d .2, omega arith))
-          (row-same ev 0 records (writesAt n) (put P (8192 + r) n (strandAt ev n)) apart (writesAt (suc n)) (λ q. last-write-next ev q n ∙ rw (J .event)))
-          (row-put ev 8192 records (readsAt n) P (shown-reads n records P₀ P (J .shown)) r records (readsAt (suc n)) (some n)
-          (read-takes ev r n (J .event) .1 ∙ stood-new (parTo ev n) n (standing ev r n) f)
-          (λ q l d. (l, elsewhere-keeps ev q n (λ e. d (sym (rw (J .event) at e))) .same-read)) (omega arith) (J .records-fit) (omega arith)))
-
-      -- one that is parallel to the standing read changes nothing
-      pub read-kept : holds (parTo ev n) (standing ev r n) ≡ true → Shown ev (suc n) records P₀ P
-      read-kept t =
-          rows-shown (suc n) records P₀ P
-          (row-same ev 0 records (writesAt n) P (shown-writes n records P₀ P (J .shown)) (writesAt (suc n)) (λ q. last-write-next ev q n ∙ rw (J .event)))
-          (row-same ev 8192 records (readsAt n) P (shown-reads n records P₀ P (J .shown)) (readsAt (suc n)) (λ q. same q (eqb r q) refl))
-          (J .shown .others) (J .shown .size)
-        where
-          same : (q : ℕ) (c : Bool) → eqb r q ≡ c → standing ev q (suc n) ≡ standing ev q n
-          same q true e = let i : r ≡ q = eqb-true r q e in rw i at (read-takes ev r n (J .event) .1 ∙ stood-old (parTo ev n) n (standing ev r n) t)
-          same q false e = elsewhere-keeps ev q n (rw (J .event) (eqb-false r q e)) .same-read
+    -- and changes nothing where the standing read is parallel to it
+    pub read-kept : holds (parTo ev n) (standing ev r n) ≡ true → Shown ev (suc n) records P₀ P
+    read-kept t =
+        rows-shown ev (suc n) records P₀ P
+        (row-same ev 0 records (writesAt ev n) P (shown-writes ev n records P₀ P (J .shown)) (writesAt ev (suc n)) same-writes)
+        (row-same ev 8192 records (readsAt ev n) P (shown-reads ev n records P₀ P (J .shown)) (readsAt ev (suc n)) (λ q. same q (eqb r q) refl))
+        (J .shown .others) (J .shown .size)
+      where
+        same : (q : ℕ) (c : Bool) → eqb r q ≡ c → standing ev q (suc n) ≡ standing ev q n
+        same q true e =
+            let i : r ≡ q = eqb-true r q e in
+            rw i at (read-takes ev r n (J .event) .1 ∙ stood-old (parTo ev n) n (standing ev r n) t)
+        same q false e = elsewhere-keeps ev q n (rw (J .event) (eqb-false r q e)) .same-read

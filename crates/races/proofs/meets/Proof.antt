@@ -43,7 +43,8 @@ wide-requires c κs = search needs
 -- the strand of the access that the place holds has a label
 labelled : (c : tie.After-wide) → 4096 + c .wide .result < length (c .before .before .before .before .before .before .before .args .labels .now)
 labelled c =
-    rw (c .wide .ensures) (c .before .before .before .before .before .before .before .pre .held-label (c .before .before .before .if1 .left))
+    let test = c .before .before .before in
+    rw (c .wide .ensures) (test .before .before .before .before .pre .held-label (test .if1 .left))
 
 add-result-2 : tie.Need-add-result-2
 add-result-2 c = omega (arith, labelled c)

@@ -22,7 +22,9 @@ same-length : tie.Need-same-length
 same-length c = search needs
 
 returns : tie.Need-returns
-returns c = rw (c .wide .ensures) (last-write-found _ _ _ _ _ (Write _) refl refl (sym (c .before .before .before .meets .ensures) ∙ c .before .before .if1 .taken))
+returns c =
+    let test = c .before .before in
+    rw (c .wide .ensures) (last-write-found _ _ _ _ _ (Write _) refl refl (sym (test .before .meets .ensures) ∙ test .if1 .taken))
 
 add-meets : tie.Need-add-meets
 add-meets c = search needs
@@ -46,7 +48,11 @@ same-length-2 : tie.Need-same-length-2
 same-length-2 c = search needs
 
 returns-2 : tie.Need-returns-2
-returns-2 c = rw (c .wide2 .ensures) (standing-read-found _ _ _ _ _ (sym (c .before .before .before .before .before .before .meets .ensures) ∙ c .before .before .before .before .before .if1 .left) (sym (c .before .before .before .meets2 .ensures) ∙ c .before .before .if2 .taken))
+returns-2 c =
+    let test = c .before .before in
+    let past = test .before .before .before in
+    rw (c .wide2 .ensures)
+    (standing-read-found _ _ _ _ _ (sym (past .before .meets .ensures) ∙ past .if1 .left) (sym (test .before .meets2 .ensures) ∙ test .if2 .taken))
 
 cast-put : tie.Need-cast-put
 cast-put c = search needs
@@ -61,7 +67,11 @@ same-length-3 : tie.Need-same-length-3
 same-length-3 c = search needs
 
 returns-3 : tie.Need-returns-3
-returns-3 c = rw (c .before .before .put .ensures) (write-taken _ _ _ _ _ (sym (c .before .before .before .before .before .before .before .before .meets .ensures) ∙ c .before .before .before .before .before .before .before .if1 .left) (sym (c .before .before .before .before .before .meets2 .ensures) ∙ c .before .before .before .before .if2 .left))
+returns-3 c =
+    let test = c .before .before .before .before in
+    let past = test .before .before .before in
+    rw (c .before .before .put .ensures)
+    (write-taken _ _ _ _ _ (sym (past .before .meets .ensures) ∙ past .if1 .left) (sym (test .before .meets2 .ensures) ∙ test .if2 .left))
 
 pub write-spec : {M : Type 1} → statement M
 write-spec =
