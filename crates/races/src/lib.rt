@@ -39,10 +39,9 @@ pub fn read(places: &mut [u32], labels: &[u64], r: usize, at: usize, strand: usi
     if meets(places, labels, r, strand) {
         return Met::First(wide(places[r]));
     }
-    if meets(places, labels, 8192 + r, strand) {
-        return Met::Nothing;
+    if !meets(places, labels, 8192 + r, strand) {
+        put(places, 8192 + r, at as u32, strand as u32);
     }
-    put(places, 8192 + r, at as u32, strand as u32);
     Met::Nothing
 }
 

@@ -1,5 +1,6 @@
 -- `read` meets its contract: the answers of the two questions say which way the read goes. Assumes nothing.
 use mathlib.Core.Path.{refl, sym, _∙_}
+use borrow.Author.Tests.{not-true, not-false}
 use Rattle.jobfile.specs.declared.coding.Event.the-variants.{Read}
 use Rattle.races.proofs.Accesses.{last-write-askable, standing-read-askable, last-write-found, read-taken, read-left}
 use borrow.Author.Needs.{needs}
@@ -32,14 +33,6 @@ add-meets c = search needs
 meets-requires-2 : tie.Need-meets-requires-2
 meets-requires-2 c κs = standing-read-askable _ _ _ _ _ _ (c .before .before .before .before .before .before .pre)
 
-same-length-2 : tie.Need-same-length-2
-same-length-2 c = search needs
-
-returns-2 : tie.Need-returns-2
-returns-2 c =
-    let past = c .before .before .before in
-    read-left _ _ _ _ _ (sym (past .before .meets .ensures) ∙ past .if1 .left) (sym (c .before .meets2 .ensures) ∙ c .if2 .taken)
-
 add-put : tie.Need-add-put
 add-put c = search needs
 
@@ -52,15 +45,23 @@ cast-put-2 c = search needs
 put-requires : tie.Need-put-requires
 put-requires c κs = search needs
 
+same-length-2 : tie.Need-same-length-2
+same-length-2 c = search needs
+
+returns-2 : tie.Need-returns-2
+returns-2 c =
+    let test = c .before .before .before .before in
+    let past = test .before .before .before in
+    rw (c .before .before .put .ensures)
+    (read-taken _ _ _ _ _ (sym (past .before .meets .ensures) ∙ past .if1 .left) (sym (test .before .meets2 .ensures) ∙ not-true _ (test .if2 .taken)))
+
 same-length-3 : tie.Need-same-length-3
 same-length-3 c = search needs
 
 returns-3 : tie.Need-returns-3
 returns-3 c =
-    let test = c .before .before .before .before in
-    let past = test .before .before .before in
-    rw (c .before .before .put .ensures)
-    (read-taken _ _ _ _ _ (sym (past .before .meets .ensures) ∙ past .if1 .left) (sym (test .before .meets2 .ensures) ∙ test .if2 .left))
+    let past = c .before .before .before in
+    read-left _ _ _ _ _ (sym (past .before .meets .ensures) ∙ past .if1 .left) (sym (c .before .meets2 .ensures) ∙ not-false _ (c .if2 .left))
 
 pub read-spec : {M : Type 1} → statement M
 read-spec =
@@ -74,11 +75,11 @@ read-spec =
     returns
     add-meets
     meets-requires-2
-    same-length-2
-    returns-2
     add-put
     cast-put
     cast-put-2
     put-requires
+    same-length-2
+    returns-2
     same-length-3
     returns-3)
