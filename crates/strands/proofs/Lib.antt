@@ -8,3 +8,4 @@ pub mod Labels
 pub mod Cases
 pub mod States
 pub mod Bound
+pub mod Grown
