@@ -9,3 +9,6 @@ pub mod Cases
 pub mod States
 pub mod Bound
 pub mod Grown
+pub mod Arrays
+pub mod Advanced
+pub mod Events
