@@ -7,7 +7,7 @@ use Prim.Native.Nat.{ℕ, suc, _+_, _-_, _≤_, _<_}
 use native.Mathlib.Omega.{arith}
 use lib.ListN.{length, getD, set, length-set}
 use Rattle.jobfile.specs.declared.coding.Event.{Event}
-use Rattle.jobfile.specs.declared.coding.Event.the-variants.{Spawn, End, Sync}
+use Rattle.jobfile.specs.declared.coding.Event.the-variants.{Spawn, End, Sync, Read, Write}
 use Rattle.relation.proofs.Depth.{depth-at}
 use Rattle.strands.specs.Cells.{point, recell}
 use Rattle.strands.specs.Standing.{cellsOf, Standing, Takes, Ready, Advanced}
@@ -83,3 +83,19 @@ module _ (L K lasts joins : List ℕ) (now : Now) where
         (ap (cellsOf (set lasts (now .top) (now .strands)) (set joins (now .top) 65535)) place
         ∙ sync-cells lasts joins (now .top) (omega (arith, S .lasts-room, S .place)) (omega (arith, S .joins-room, S .place)) (now .strands) h)
         (omega (arith, S .place)) (length-set lasts (now .top) (now .strands) ∙ S .lasts-room) (length-set joins (now .top) 65535 ∙ S .joins-room)
+
+-- the event by its kind
+pub ready-as : (L K lasts joins : List ℕ) (now : Now) (e x : Event) → e ≡ x → Ready L K lasts joins now e → Ready L K lasts joins now x
+ready-as L K lasts joins now e x is R = rw is at R
+
+pub advanced-as : (L K lasts joins : List ℕ) (now : Now) (e x : Event) (L′ K′ lasts′ joins′ : List ℕ) (next : Now) → e ≡ x
+    → Advanced L K lasts joins now x L′ K′ lasts′ joins′ next → Advanced L K lasts joins now e L′ K′ lasts′ joins′ next
+advanced-as L K lasts joins now e x L′ K′ lasts′ joins′ next is A = rw is A
+
+-- an access leaves the strands as they are
+module _ (L K lasts joins : List ℕ) (now : Now) (e : Event) (r : ℕ) where
+  pub read-still : e ≡ Read r → Advanced L K lasts joins now e L K lasts joins now
+  read-still is ev n L₀ K₀ S T = stands-still ev n L₀ K₀ L K lasts joins now e S T (rw is) (rw is)
+
+  pub write-still : e ≡ Write r → Advanced L K lasts joins now e L K lasts joins now
+  write-still is ev n L₀ K₀ S T = stands-still ev n L₀ K₀ L K lasts joins now e S T (rw is) (rw is)

@@ -1,3 +1,6 @@
+-- `strands::advance` meets its contract: each arm knows the event by its kind, and hands on what the function for that kind ensures; an
+-- access leaves everything as it is. Assumes nothing.
+use Rattle.strands.proofs.Events.{ready-as, advanced-as, read-still, write-still}
 use borrow.Author.Needs.{needs}
 use Rattle.strands.proofs.advance.Statement.{statement}
 use Rattle.strands.proofs.advance.Tie as tie
@@ -7,81 +10,62 @@ use Rattle.strands.proofs.end.Reads as end-reads
 use Rattle.strands.proofs.spawn.Reads as spawn-reads
 use Rattle.strands.proofs.sync.Reads as sync-reads
 
--- src/lib.rt:51:47
 enum-told : tie.Need-enum-told
 enum-told c = search needs
 
--- src/lib.rt:51:34
 spawn-requires : tie.Need-spawn-requires
-spawn-requires c κs = ?
+spawn-requires c κs = ready-as _ _ _ _ _ _ _ (c .before .before .before .before .enum-told .given .1) (c .before .before .before .before .before .before .before .before .pre)
 
--- src/lib.rt:52:43
 enum-told-2 : tie.Need-enum-told-2
 enum-told-2 c = search needs
 
--- src/lib.rt:52:32
 end-requires : tie.Need-end-requires
-end-requires c κs = ?
+end-requires c κs = ready-as _ _ _ _ _ _ _ (c .before .before .before .before .enum-told2 .given .1) (c .before .before .before .before .before .before .before .before .pre)
 
--- src/lib.rt:53:45
 enum-told-3 : tie.Need-enum-told-3
 enum-told-3 c = search needs
 
--- src/lib.rt:53:33
 sync-requires : tie.Need-sync-requires
-sync-requires c κs = ?
+sync-requires c κs = ready-as _ _ _ _ _ _ _ (c .before .before .before .before .enum-told3 .given .1) (c .before .before .before .before .before .before .before .before .pre)
 
--- src/lib.rt:54:36
 enum-told-4 : tie.Need-enum-told-4
 enum-told-4 c = search needs
 
--- src/lib.rt:55:37
 enum-told-5 : tie.Need-enum-told-5
 enum-told-5 c = search needs
 
--- src/lib.rt:39:1
 same-length : tie.Need-same-length
 same-length c = search needs
 
--- src/lib.rt:39:1
 same-length-2 : tie.Need-same-length-2
 same-length-2 c = search needs
 
--- src/lib.rt:39:1
 returns : tie.Need-returns
-returns c = ?
+returns c = let k = c .before .before .before .before in advanced-as _ _ _ _ _ _ _ _ _ _ _ _ (k .before .before .before .before .before .enum-told .given .1) (k .spawn .ensures)
 
--- src/lib.rt:39:1
 same-length-3 : tie.Need-same-length-3
 same-length-3 c = search needs
 
--- src/lib.rt:39:1
 same-length-4 : tie.Need-same-length-4
 same-length-4 c = search needs
 
--- src/lib.rt:39:1
 returns-2 : tie.Need-returns-2
-returns-2 c = ?
+returns-2 c = let k = c .before .before .before .before in advanced-as _ _ _ _ _ _ _ _ _ _ _ _ (k .before .before .before .before .before .enum-told2 .given .1) (k .end .ensures)
 
--- src/lib.rt:39:1
 same-length-5 : tie.Need-same-length-5
 same-length-5 c = search needs
 
--- src/lib.rt:39:1
 same-length-6 : tie.Need-same-length-6
 same-length-6 c = search needs
 
--- src/lib.rt:39:1
 returns-3 : tie.Need-returns-3
-returns-3 c = ?
+returns-3 c = let k = c .before .before .before .before in advanced-as _ _ _ _ _ _ _ _ _ _ _ _ (k .before .before .before .before .before .enum-told3 .given .1) (k .sync .ensures)
 
--- src/lib.rt:39:1
 returns-4 : tie.Need-returns-4
-returns-4 c = ?
+returns-4 c = read-still _ _ _ _ _ _ _ (c .enum-told4 .given .1)
 
--- src/lib.rt:39:1
 returns-5 : tie.Need-returns-5
-returns-5 c = ?
+returns-5 c = write-still _ _ _ _ _ _ _ (c .enum-told5 .given .1)
 
 pub advance-spec : {M : Type 1} → statement M
 advance-spec =
