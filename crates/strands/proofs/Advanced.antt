@@ -1,28 +1,26 @@
 -- The state just before event n and what the event stores give the state behind it: where the event has a point, the buffers with the new
 -- strand; where it has none, the buffers as they were. Assumes nothing.
-use mathlib.Core.Path.{_≡_, refl, sym, ap, _∙_, subst}
+use mathlib.Core.Path.{_≡_, sym, ap, _∙_, subst}
 use mathlib.Core.Logic.{_≢_}
-use mathlib.Core.List.{List, [], _∷_}
+use mathlib.Core.List.{List}
 use mathlib.Core.Option.{Option, none, some}
-use Prim.Native.Nat.{ℕ, zero, suc, _+_, _*_, _-_, _/_, _≤_, _<_}
-use native.Mathlib.Nat.{mul-le-mul-left, mul-comm, add-zero}
+use Prim.Native.Nat.{ℕ, suc, _+_, _*_, _/_, _≤_, _<_}
+use native.Mathlib.Nat.{mul-le-mul-left, add-zero}
 use native.Mathlib.Omega.{arith}
-use lib.ListN.{length, getD, set}
-use Rattle.jobfile.specs.Trace.{begins, tasksAt, depthAt, begunAt}
+use lib.ListN.{length, getD}
+use Rattle.jobfile.specs.Trace.{depthAt, begunAt}
 use Rattle.jobfile.specs.declared.coding.Event.{Event}
-use Rattle.jobfile.specs.declared.coding.Event.the-variants.{Spawn, End, Sync}
 use Rattle.relation.specs.Parallel.{Rooted}
 use Rattle.relation.specs.Strand.{strandAt}
-use Rattle.relation.proofs.Depth.{depth-at}
 use Rattle.relation.proofs.Strand.{begun-rises}
-use Rattle.orders.specs.Model.{State, Holds, insertState, insertCount}
-use Rattle.strands.specs.Cells.{Cell, cell, point, recell, cells, pointAt}
+use Rattle.orders.specs.Model.{insertState, insertCount}
+use Rattle.strands.specs.Cells.{point, recell, cells, pointAt}
 use Rattle.strands.specs.Orders.{behindLast}
-use Rattle.strands.specs.States.{grow, counted, stateAt, countAt, lastPoint, englishState, hebrewState, englishCount, hebrewCount}
+use Rattle.strands.specs.States.{stateAt, countAt, lastPoint, englishState, hebrewState, englishCount, hebrewCount}
 use Rattle.strands.specs.Standing.{cellsOf, Untouched, Standing, Takes}
 use Rattle.strands.specs.Grown.{Growable, Grown}
 use Rattle.strands.specs.declared.Now.{Now}
-use Rattle.strands.proofs.Cells.{oneAt, BelowIf, CellsBelow, depth-cells, begun-next, cells-begun, point-begun}
+use Rattle.strands.proofs.Cells.{oneAt, CellsBelow, depth-cells, begun-next, cells-begun, point-begun}
 use Rattle.strands.proofs.States.{english-size, hebrew-size}
 use Rattle.strands.proofs.Bound.{english-bound, hebrew-bound}
 use Rattle.strands.proofs.Arrays.{length-cells}

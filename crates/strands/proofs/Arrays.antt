@@ -2,17 +2,17 @@
 use mathlib.Core.Path.{_≡_, refl, ap, _∙_}
 use mathlib.Core.Logic.{_≢_}
 use mathlib.Core.Bool.{Bool, true, false, cond}
-use mathlib.Core.List.{List, [], _∷_}
-use mathlib.Core.Option.{Option, none, some}
+use mathlib.Core.List.{List, _∷_}
+use mathlib.Core.Option.{none, some}
 use Prim.Native.Nat.{ℕ, zero, suc, _+_, _-_, _≤_, _<_}
 use native.Mathlib.Numerals.{add-one}
 use native.Mathlib.Omega.{arith}
 use lib.ListN.{length, getD, set}
 use lib.Seq.{getD-set-same, getD-set-other}
 use lib.Dec.{eqb}
-use borrow.Author.Tests.{eq-eqb, ne-eqb, eqb-true, eqb-false}
+use borrow.Author.Tests.{eq-eqb, ne-eqb, eqb-false}
 use Rattle.jobfile.specs.declared.coding.Event.the-variants.{Spawn, End, Sync}
-use Rattle.strands.specs.Cells.{Cell, cell, orElse, point, recell}
+use Rattle.strands.specs.Cells.{cell, orElse, point, recell}
 use Rattle.strands.specs.Standing.{joinOf, cellsUnder, cellsOf}
 use Rattle.strands.specs.Grown.{joinAfter}
 

@@ -1,15 +1,15 @@
 -- Each kind of event: what the state asks of its stores, and that they give the state behind it. Assumes nothing.
-use mathlib.Core.Path.{_≡_, refl, sym, ap, _∙_}
+use mathlib.Core.Path.{_≡_, refl, ap, _∙_}
 use mathlib.Core.Logic.{_≢_}
 use mathlib.Core.List.{List}
 use mathlib.Core.Option.{some}
 use Prim.Native.Nat.{ℕ, suc, _+_, _-_, _≤_, _<_}
 use native.Mathlib.Omega.{arith}
-use lib.ListN.{length, getD, set, length-set}
+use lib.ListN.{getD, set, length-set}
 use Rattle.jobfile.specs.declared.coding.Event.{Event}
 use Rattle.jobfile.specs.declared.coding.Event.the-variants.{Spawn, End, Sync, Read, Write}
 use Rattle.relation.proofs.Depth.{depth-at}
-use Rattle.strands.specs.Cells.{point, recell}
+use Rattle.strands.specs.Cells.{point}
 use Rattle.strands.specs.Standing.{cellsOf, Standing, Takes, Ready, Advanced}
 use Rattle.strands.specs.Grown.{Growable, Grown, joinAfter}
 use Rattle.strands.specs.declared.Now.{Now}

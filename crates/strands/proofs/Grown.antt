@@ -1,17 +1,29 @@
 -- A strand put into the English order and then into the Hebrew one: each insertion leaves the other order as it was, and no entry but
 -- those of the strands begun. Assumes nothing.
-use mathlib.Core.Path.{_≡_, refl, sym, _∙_}
+use mathlib.Core.Path.{_≡_, _∙_}
 use mathlib.Core.List.{List}
-use Prim.Native.Nat.{ℕ, _+_, _-_, _≤_, _<_}
+use Prim.Native.Nat.{ℕ, _+_, _-_, _≤_}
 use native.Mathlib.Omega.{arith}
-use lib.ListN.{length, getD}
-use Rattle.orders.specs.Model.{State, insertState, insertCount, Holds, Insertable, Inserted}
+use lib.ListN.{length}
+use Rattle.orders.specs.Model.{State, insertState, Holds, Kept, Insertable, Inserted}
 use Rattle.orders.proofs.Apart.{english-stays, hebrew-stays}
 use Rattle.orders.proofs.Labels.{insertState-size}
 use Rattle.orders.proofs.History.{insert-few}
 use Rattle.strands.specs.Standing.{Untouched}
 use Rattle.strands.specs.Grown.{Growable, Grown}
 use Rattle.strands.specs.declared.Now.{Now}
+
+-- what keeps all entries but those of n strands of one order, and then of the other, keeps all that belong to none of them
+pub both-kept : (L K L₁ K₁ L₂ K₂ : List ℕ) (n : ℕ) → Kept L K 0 0 n L₁ K₁ → Kept L₁ K₁ 4096 8192 n L₂ K₂ → length L₂ ≡ length L
+    → length K₂ ≡ length K → Untouched n L K L₂ K₂
+both-kept L K L₁ K₁ L₂ K₂ n I J l k = record {
+  labels = λ i out. J .labels i (λ s b. out s b .1) ∙ I .labels i (λ s b z. out s b .0 (omega arith));
+  links = λ i out.
+      J .links i (λ s b. (out s b .2, λ z. out s b .3 (omega arith)))
+      ∙ I .links i (λ s b. (λ z. out s b .0 (omega arith), λ z. out s b .1 (omega arith)));
+  labels-length = l;
+  links-length = k;
+}
 
 module _ (L K : List ℕ) (point : ℕ) (now : Now) (G : Growable L K point now) where
   pub english-insertable : Insertable L K 0 0 (now .strands - 1) (now .strands)
@@ -48,16 +60,6 @@ module _ (L K : List ℕ) (point : ℕ) (now : Now) (G : Growable L K point now)
       hebrew-counts =
           omega (arith, J .held (G .H) (hebrew-left (G .H) (G .hebrew) (G .hebrew-size)) (G .hebrew-size) .1, insert-few point (now .strands) (G .H))
 
-      both-untouched : length L₂ ≡ length L → length K₂ ≡ length K → Untouched (now .strands + 1) L K L₂ K₂
-      both-untouched l k = record {
-        labels = λ i out. J .kept .labels i (λ s b. out s b .1) ∙ I .kept .labels i (λ s b z. out s b .0 (omega arith));
-        links = λ i out.
-            J .kept .links i (λ s b. (out s b .2, λ z. out s b .3 (omega arith)))
-            ∙ I .kept .links i (λ s b. (λ z. out s b .0 (omega arith), λ z. out s b .1 (omega arith)));
-        labels-length = l;
-        links-length = k;
-      }
-
       pub both-grown : length L₂ ≡ length L → length K₂ ≡ length K → (next : Now) → next .strands ≡ now .strands + 1
           → next .english ≡ now .english + e → next .hebrew ≡ now .hebrew + h → Grown L K point now L₂ K₂ next
       both-grown l k next more en he = record {
@@ -68,5 +70,5 @@ module _ (L K : List ℕ) (point : ℕ) (now : Now) (G : Growable L K point now)
             omega (arith, step .1));
         hebrew = λ H holds size. let step = J .held H (hebrew-left H holds size) size in (step .0, omega (arith, step .1));
         strands = more;
-        untouched = both-untouched l k;
+        untouched = both-kept L K L₁ K₁ L₂ K₂ (now .strands + 1) (I .kept) (J .kept) l k;
       }

@@ -4,11 +4,6 @@ use Rattle.strands.proofs.Events.{ready-as, advanced-as, read-still, wr
 use borrow.Author.Needs.{needs}
 use Rattle.strands.proofs.advance.Statement.{statement}
 use Rattle.strands.proofs.advance.Tie as tie
-use Rattle.strands.proofs.advance.Reads as reads
-use Rattle.strands.proofs.advance.Lts as lts
-use Rattle.strands.proofs.end.Reads as end-reads
-use Rattle.strands.proofs.spawn.Reads as spawn-reads
-use Rattle.strands.proofs.sync.Reads as sync-reads
 
 enum-told : tie.Need-enum-told
 enum-told c = search needs

@@ -3,10 +3,6 @@ use Rattle.strands.proofs.Events.{end-parent, end-growable, end-advance
 use borrow.Author.Needs.{needs}
 use Rattle.strands.proofs.end.Statement.{statement}
 use Rattle.strands.proofs.end.Tie as tie
-use Rattle.strands.proofs.end.Reads as reads
-use Rattle.strands.proofs.end.Lts as lts
-use Rattle.strands.proofs.grow.Reads as grow-reads
-use Rattle.strands.proofs.join_after.Reads as join-after-reads
 
 sub-parent : tie.Need-sub-parent
 sub-parent c = end-parent _ _ _ _ _ (c .before .before .pre)

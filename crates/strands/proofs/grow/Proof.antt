@@ -7,9 +7,6 @@ use native.Mathlib.Omega.{arith}
 use Rattle.strands.proofs.Grown.{english-insertable, hebrew-insertable, english-counts, hebrew-counts, both-grown}
 use Rattle.strands.proofs.grow.Statement.{statement}
 use Rattle.strands.proofs.grow.Tie as tie
-use Rattle.strands.proofs.grow.Reads as reads
-use Rattle.strands.proofs.grow.Lts as lts
-use Rattle.orders.proofs.insert.Reads as insert-reads
 
 -- the entry, and the English insertion, seen from the Hebrew one
 abbrev S : tie.After-insert → tie.Start

@@ -3,9 +3,6 @@ use Rattle.strands.proofs.Events.{spawn-room, spawn-growable, spawn-adv
 use borrow.Author.Needs.{needs}
 use Rattle.strands.proofs.spawn.Statement.{statement}
 use Rattle.strands.proofs.spawn.Tie as tie
-use Rattle.strands.proofs.spawn.Reads as reads
-use Rattle.strands.proofs.spawn.Lts as lts
-use Rattle.strands.proofs.grow.Reads as grow-reads
 
 add-child : tie.Need-add-child
 add-child c = search needs

@@ -4,9 +4,6 @@ use Rattle.strands.proofs.Events.{sync-growable, sync-nothing, sync-adv
 use borrow.Author.Needs.{needs}
 use Rattle.strands.proofs.sync.Statement.{statement}
 use Rattle.strands.proofs.sync.Tie as tie
-use Rattle.strands.proofs.sync.Reads as reads
-use Rattle.strands.proofs.sync.Lts as lts
-use Rattle.strands.proofs.grow.Reads as grow-reads
 
 mul-point : tie.Need-mul-point
 mul-point c = search needs
