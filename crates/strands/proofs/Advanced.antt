@@ -138,7 +138,7 @@ module _ (ev : ℕ → Event) (n : ℕ) (L₀ K₀ L K lasts joins : List ℕ) (
       let no-point : pointAt ev n ≡ none = point-is ∙ at in
       let no-last : lastPoint ev n ≡ none = ap (λ (o : Option ℕ). behindLast o (strandAt ev n)) no-point in
       let begun-same : begunAt ev (suc n) ≡ begunAt ev n =
-          begun-next ev n (T .rooted) ∙ ap (λ (o : Option ℕ). begunAt ev n + oneAt o) no-point ∙ add-zero (begunAt ev n) in
+      begun-next ev n (T .rooted) ∙ ap (λ (o : Option ℕ). begunAt ev n + oneAt o) no-point ∙ add-zero (begunAt ev n) in
       record {
         english = rw (state-same ev (lastPoint ev) n no-last) (S .english);
         hebrew = rw (state-same ev (pointAt ev) n no-point) (S .hebrew);

@@ -64,10 +64,11 @@ module _ (L K : List ℕ) (point : ℕ) (now : Now) (G : Growable L K point now)
           → next .english ≡ now .english + e → next .hebrew ≡ now .hebrew + h → Grown L K point now L₂ K₂ next
       both-grown l k next more en he = record {
         english = λ E holds size.
-            let step = I .held E holds size in
-            (english-stays L₁ K₁ L₂ K₂ (now .strands + 1) (insertState (now .strands - 1) (now .strands) E) (omega arith)
-                (omega (arith, insertState-size (now .strands - 1) (now .strands) E)) (J .kept) (step .0),
-            omega (arith, step .1));
+            let step = I .held E holds size in (
+              english-stays L₁ K₁ L₂ K₂ (now .strands + 1) (insertState (now .strands - 1) (now .strands) E) (omega arith)
+                  (omega (arith, insertState-size (now .strands - 1) (now .strands) E)) (J .kept) (step .0),
+              omega (arith, step .1),
+            );
         hebrew = λ H holds size. let step = J .held H (hebrew-left H holds size) size in (step .0, omega (arith, step .1));
         strands = more;
         untouched = both-kept L K L₁ K₁ L₂ K₂ (now .strands + 1) (I .kept) (J .kept) l k;

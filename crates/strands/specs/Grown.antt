@@ -28,7 +28,7 @@ pub record Growable (L K : List ℕ) (point : ℕ) (now : Now) : Type 0 where
 pub record Grown (L K : List ℕ) (point : ℕ) (now : Now) (L′ K′ : List ℕ) (next : Now) : Type 0 where
   pub english : (E : State) → Holds L K 0 0 E → length (E .lab) ≡ now .strands
       → Holds L′ K′ 0 0 (insertState (now .strands - 1) (now .strands) E)
-          × (next .english ≡ now .english + insertCount (now .strands - 1) (now .strands) E)
+      × (next .english ≡ now .english + insertCount (now .strands - 1) (now .strands) E)
   pub hebrew : (H : State) → Holds L K 4096 8192 H → length (H .lab) ≡ now .strands
       → Holds L′ K′ 4096 8192 (insertState point (now .strands) H) × (next .hebrew ≡ now .hebrew + insertCount point (now .strands) H)
   pub strands : next .strands ≡ now .strands + 1

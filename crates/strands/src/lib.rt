@@ -1,11 +1,9 @@
 // The strands of a job as its events come: both orders in lent buffers, and for each open task where the next strands go.
 // Of the open task at place d, the root's being 0, lasts[d] is its last strand and joins[d] the strand behind which its sync's goes, or
 // 65535 where it has nothing to join. The theory of the two orders stands in specs/ and proofs/.
-ghost use Prim.Native.Nat.{ℕ, _+_, _≤_};
+ghost use Prim.Native.Nat.{_≤_};
 ghost use mathlib.Core.Path.{_≡_};
-ghost use mathlib.Core.List.{List};
-ghost use lib.ListN.{length, getD};
-ghost use Rattle.jobfile.specs.declared.coding.Event.{Event};
+ghost use lib.ListN.{length};
 ghost use Rattle.jobfile.specs.declared.coding.Event.the-variants.{Spawn, End, Sync};
 ghost use Rattle.strands.specs.Standing.{Started, Ready, Advanced};
 ghost use Rattle.strands.specs.Grown.{Growable, Grown, joinAfter};
@@ -67,9 +65,9 @@ fn spawn(
     requires { ⌜ Ready (now labels) (now links) (now lasts) (now joins) state Spawn ⌝ }
     ensures { λ r. ⌜ Advanced (now (labels .entry)) (now (links .entry)) (now (lasts .entry)) (now (joins .entry)) state Spawn (now (labels .exit)) (now (links .exit)) (now (lasts .exit)) (now (joins .exit)) r ⌝ }
 {
-    let parent = state.top;
-    let child = parent + 1;
-    let point = lasts[parent];
+    let top = state.top;
+    let child = top + 1;
+    let point = lasts[top];
     lasts[child] = state.strands;
     joins[child] = 65535;
     grow(labels, links, point, state, child)
@@ -137,7 +135,8 @@ fn grow(labels: &mut [u64], links: &mut [u16], point: usize, state: Now, top: us
     ensures { λ r. ⌜ r .top ≡ top ⌝ }
 {
     let new = state.strands;
-    let english = orders::insert(labels, links, 0, 0, new - 1, new);
+    let last = new - 1;
+    let english = orders::insert(labels, links, 0, 0, last, new);
     let hebrew = orders::insert(labels, links, 4096, 8192, point, new);
     Now {
         top,

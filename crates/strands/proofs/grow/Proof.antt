@@ -24,8 +24,8 @@ few c = english-counts _ _ _ _ (S c .pre) _ _ _ (c .insert .ensures)
 few-2 : (c : tie.After-insert2) → c .insert2 .result ≤ 4096
 few-2 c = hebrew-counts _ _ _ _ (S (I (c .before)) .pre) _ _ _ (I (c .before) .insert .ensures) _ _ _ (c .insert2 .ensures)
 
-sub-insert : tie.Need-sub-insert
-sub-insert c = search needs
+sub-last : tie.Need-sub-last
+sub-last c = search needs
 
 insert-requires : tie.Need-insert-requires
 insert-requires c κs = english-insertable _ _ _ _ (c .before .before .before .before .pre)
@@ -33,14 +33,14 @@ insert-requires c κs = english-insertable _ _ _ _ (c .before .before .before .b
 insert-requires-2 : tie.Need-insert-requires-2
 insert-requires-2 c κs = hebrew-insertable _ _ _ _ (S (I c) .pre) _ _ _ (I c .insert .ensures) (I c .insert .kept .0) (I c .insert .kept .1 .0)
 
-add-t13 : tie.Need-add-t13
-add-t13 c = search needs
-
 add-t18 : tie.Need-add-t18
-add-t18 c = omega (arith, few (I (J c .before)))
+add-t18 c = search needs
 
 add-t19 : tie.Need-add-t19
-add-t19 c = omega (arith, few-2 (J (c .before)))
+add-t19 c = omega (arith, few (I (J c .before)))
+
+add-t20 : tie.Need-add-t20
+add-t20 c = omega (arith, few-2 (J (c .before)))
 
 same-length : tie.Need-same-length
 same-length c = search needs
@@ -51,21 +51,22 @@ same-length-2 c = search needs
 returns : tie.Need-returns
 returns c =
     let j = J (c .before) in
-    let i = I (j .before) in
-    (both-grown _ _ _ _ (S i .pre) _ _ _ (i .insert .ensures) _ _ _ (j .insert2 .ensures) (j .insert2 .kept .0 ∙ i .insert .kept .0)
-        (j .insert2 .kept .1 .0 ∙ i .insert .kept .1 .0) _ refl refl refl,
-    refl)
+    let i = I (j .before) in (
+      both-grown _ _ _ _ (S i .pre) _ _ _ (i .insert .ensures) _ _ _ (j .insert2 .ensures) (j .insert2 .kept .0 ∙ i .insert .kept .0)
+          (j .insert2 .kept .1 .0 ∙ i .insert .kept .1 .0) _ refl refl refl,
+      refl,
+    )
 
 pub grow-spec : {M : Type 1} → statement M
 grow-spec =
     tie.close
     (tie.spec
-    sub-insert
+    sub-last
     insert-requires
     insert-requires-2
-    add-t13
     add-t18
     add-t19
+    add-t20
     same-length
     same-length-2
     returns)
