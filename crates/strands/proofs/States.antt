@@ -118,10 +118,12 @@ module _ (ev : ℕ → Event) where
   held-tells n L K rooted H m le =
       let size : length (hebrewState ev n .lab) ≡ begunAt ev n = hebrew-size n rooted in
       let rises : Pairs (λ a b. getD (hebrewState ev n .lab) a 0 < getD (hebrewState ev n .lab) b 0) (hebrewAt ev n) =
-          subst (Pairs (λ a b. getD (hebrewState ev n .lab) a 0 < getD (hebrewState ev n .lab) b 0)) (hebrew-state-order n)
-          (labels-rise (hebrewState ev n) (H .good)) in
-      rw (H .labels (strandAt ev n) (omega (arith, begun-some ev n)),
-      H .labels (strandAt ev m) (omega (arith, begun-some ev m, begun-rises ev m n le)))
+      subst (Pairs (λ a b. getD (hebrewState ev n .lab) a 0 < getD (hebrewState ev n .lab) b 0)) (hebrew-state-order n)
+      (labels-rise (hebrewState ev n) (H .good)) in
+      rw (
+        H .labels (strandAt ev n) (omega (arith, begun-some ev n)),
+        H .labels (strandAt ev m) (omega (arith, begun-some ev m, begun-rises ev m n le)),
+      )
       (label-test ev (λ s. getD (hebrewState ev n .lab) s 0) m n le rooted rises)
 
   pub tells : (n : ℕ) (L₀ K₀ L K lasts joins : List ℕ) (now : Now) → Standing ev n L₀ K₀ L K lasts joins now → Rooted ev n → (m : ℕ) → m ≤ n
