@@ -23,8 +23,8 @@ use Rattle.races.proofs.Verdict.{read-clean, write-clean, last-write-ra
 use Rattle.races.proofs.Shown.{write-shown, read-shown, read-kept}
 
 module _
-  {ev : ℕ → Event} {n records : ℕ} {P₀ P L : List ℕ} {e : Event} {r at strand : ℕ}
-  (J : Judgeable ev n records P₀ P L e r at strand) where
+    {ev : ℕ → Event} {n records : ℕ} {P₀ P L : List ℕ} {e : Event} {r at strand : ℕ}
+    (J : Judgeable ev n records P₀ P L e r at strand) where
   -- the strand of an earlier event has a label
   labelled : (m : ℕ) → m < n → 4096 + strandAt ev m < length L
   labelled m l = omega (arith, begun-some ev m, begun-rises ev m n (omega arith), J .few, J .labels-room)

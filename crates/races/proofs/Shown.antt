@@ -109,8 +109,8 @@ module _ {ev : ℕ → Event} {n records : ℕ} {P₀ P L : List ℕ} {r at stra
   write-shown J =
       let writes = shown-writes ev n records P₀ P (J .shown) in
       let reads =
-          row-apart ev 8192 records (readsAt ev n) P (shown-reads ev n records P₀ P (J .shown)) r n (strandAt ev n)
-          (λ q l. (omega arith, omega arith, omega arith, omega arith))
+      row-apart ev 8192 records (readsAt ev n) P (shown-reads ev n records P₀ P (J .shown)) r n (strandAt ev n)
+      (λ q l. (omega arith, omega arith, omega arith, omega arith))
       in
       rw (J .number, J .strand-is)
       (put-shown ev n records P₀ P r n (strandAt ev n) (J .shown) (λ i o. let d = o r (J .on-record) in (d .0, omega arith))
@@ -128,8 +128,8 @@ module _ {ev : ℕ → Event} {n records : ℕ} {P₀ P L : List ℕ} {r at stra
     read-shown f =
         let reads = shown-reads ev n records P₀ P (J .shown) in
         let writes =
-            row-apart ev 0 records (writesAt ev n) P (shown-writes ev n records P₀ P (J .shown)) (8192 + r) n (strandAt ev n)
-            (λ q l. (omega arith, omega arith, omega arith, omega arith))
+        row-apart ev 0 records (writesAt ev n) P (shown-writes ev n records P₀ P (J .shown)) (8192 + r) n (strandAt ev n)
+        (λ q l. (omega arith, omega arith, omega arith, omega arith))
         in
         rw (J .number, J .strand-is)
         (put-shown ev n records P₀ P (8192 + r) n (strandAt ev n) (J .shown) (λ i o. let d = o r (J .on-record) in (d .2, omega arith))
