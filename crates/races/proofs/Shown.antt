@@ -1,15 +1,17 @@
 -- The places show the events before n (`Shown`): so they do before any event once they are emptied, and what an access that does not
 -- race puts there makes them show one event more. The four entries of each record are two rows (`Row`). Assumes nothing.
 use mathlib.Core.Path.{_≡_, refl, sym, _∙_}
-use mathlib.Core.Logic.{_≢_}
+use mathlib.Core.Logic.{_⊎_, inl, inr, ⊎-elim, _≢_}
 use mathlib.Core.List.{List}
 use mathlib.Core.Bool.{Bool, true, false, false≢true}
 use mathlib.Core.Option.{Option, none, some}
-use Prim.Native.Nat.{ℕ, suc, _+_, _≤_, _<_}
+use Prim.Native.Nat.{ℕ, suc, _+_, _-_, _≤_, _<_}
 use native.Mathlib.Nat.{zero-add}
 use native.Mathlib.Omega.{arith}
+use native.Mathlib.Decide.{decLe, decLt}
 use lib.Dec.{eqb}
 use lib.ListN.{length, getD}
+use lib.Seq.{ext-getD}
 use borrow.Author.Tests.{eqb-true, eqb-false}
 use Rattle.jobfile.specs.declared.coding.Event.{Event}
 use Rattle.jobfile.specs.declared.coding.Event.the-variants.{Read, Write}
@@ -17,7 +19,7 @@ use Rattle.relation.specs.Strand.{strandAt}
 use Rattle.races.specs.Places.{holds, stood, parTo, lastWrite, standing}
 use Rattle.races.specs.Shown.{Shown, Judgeable}
 use Rattle.races.specs.Entries.{put}
-use Rattle.races.proofs.Places.{Kept, last-write-next, standing-next, elsewhere-keeps, write-takes, read-takes, no-write-yet, no-read-yet}
+use Rattle.races.proofs.Places.{last-write-next, standing-next, elsewhere-keeps, write-takes, read-takes, no-write-yet, no-read-yet}
 use Rattle.races.proofs.Entries.{put-length, put-other, Row, row-put, row-apart, row-same}
 
 -- a read comes to stand just where nothing parallel to it stands
@@ -28,6 +30,22 @@ stood-new test n (some s) f = rw f
 stood-old : (test : ℕ → Bool) (n : ℕ) (o : Option ℕ) → holds test o ≡ true → stood test n o ≡ o
 stood-old test n none t = absurd (false≢true t)
 stood-old test n (some s) t = rw t
+
+-- entry i is some record's, or no record's, among the entries that begin at `from`
+abbrev Of : ℕ → ℕ → ℕ → Type 0
+Of from records i = (r : ℕ) × (r < records) × (i ≡ from + r)
+
+abbrev Off : ℕ → ℕ → ℕ → Type 0
+Off from records i = (r : ℕ) → r < records → i ≢ from + r
+
+within : (from records i : ℕ) → Of from records i ⊎ Off from records i
+within from records i = go (decLe from i) (decLt (i - from) records)
+  where
+    go : Dec (from ≤ i) → Dec (i - from < records) → Of from records i ⊎ Off from records i
+    go (yes a) (yes b) = inl (i - from, b, omega arith)
+    go (yes a) (no b) = inr (λ r l e. omega arith)
+    go (no a) (yes b) = inr (λ r l e. omega arith)
+    go (no a) (no b) = inr (λ r l e. omega arith)
 
 module _ (ev : ℕ → Event) where
   -- entry i is no record's
@@ -58,6 +76,31 @@ module _ (ev : ℕ → Event) where
       others = others;
       size = size;
     }
+
+  -- what the places show is all there is to them: no second contents fit
+  pub shown-unique : (n records : ℕ) (P₀ P Q : List ℕ) → Shown ev n records P₀ P → Shown ev n records P₀ Q → P ≡ Q
+  shown-unique n records P₀ P Q S T = ext-getD 0 P Q (S .size ∙ sym (T .size)) (λ i l. same i)
+    where
+      same : (i : ℕ) → getD P i 0 ≡ getD Q i 0
+      same i =
+          ⊎-elim
+          (λ (w : Of 0 records i). let e : i ≡ w .0 = omega (arith, w .2) in rw e (S .write (w .0) (w .1) ∙ sym (T .write (w .0) (w .1))))
+          (λ (a : Off 0 records i).
+          ⊎-elim
+          (λ (w : Of 4096 records i). rw (w .2) (S .write-strand (w .0) (w .1) ∙ sym (T .write-strand (w .0) (w .1))))
+          (λ (b : Off 4096 records i).
+          ⊎-elim
+          (λ (w : Of 8192 records i). rw (w .2) (S .read (w .0) (w .1) ∙ sym (T .read (w .0) (w .1))))
+          (λ (c : Off 8192 records i).
+          ⊎-elim
+          (λ (w : Of 12288 records i). rw (w .2) (S .read-strand (w .0) (w .1) ∙ sym (T .read-strand (w .0) (w .1))))
+          (λ (d : Off 12288 records i).
+          let out : Outside records i = λ r l. (rw zero-add at (a r l), b r l, c r l, d r l) in
+          S .others i out ∙ sym (T .others i out))
+          (within 12288 records i))
+          (within 8192 records i))
+          (within 4096 records i))
+          (within 0 records i)
 
   -- emptied places show that no event has happened: none emptied yet, and one record more
   pub none-emptied : (P : List ℕ) → Shown ev 0 0 P P
@@ -109,8 +152,8 @@ module _ {ev : ℕ → Event} {n records : ℕ} {P₀ P L : List ℕ} {r at stra
   write-shown J =
       let writes = shown-writes ev n records P₀ P (J .shown) in
       let reads =
-          row-apart ev 8192 records (readsAt ev n) P (shown-reads ev n records P₀ P (J .shown)) r n (strandAt ev n)
-          (λ q l. (omega arith, omega arith, omega arith, omega arith))
+      row-apart ev 8192 records (readsAt ev n) P (shown-reads ev n records P₀ P (J .shown)) r n (strandAt ev n)
+      (λ q l. (omega arith, omega arith, omega arith, omega arith))
       in
       rw (J .number, J .strand-is)
       (put-shown ev n records P₀ P r n (strandAt ev n) (J .shown) (λ i o. let d = o r (J .on-record) in (d .0, omega arith))
@@ -128,8 +171,8 @@ module _ {ev : ℕ → Event} {n records : ℕ} {P₀ P L : List ℕ} {r at stra
     read-shown f =
         let reads = shown-reads ev n records P₀ P (J .shown) in
         let writes =
-            row-apart ev 0 records (writesAt ev n) P (shown-writes ev n records P₀ P (J .shown)) (8192 + r) n (strandAt ev n)
-            (λ q l. (omega arith, omega arith, omega arith, omega arith))
+        row-apart ev 0 records (writesAt ev n) P (shown-writes ev n records P₀ P (J .shown)) (8192 + r) n (strandAt ev n)
+        (λ q l. (omega arith, omega arith, omega arith, omega arith))
         in
         rw (J .number, J .strand-is)
         (put-shown ev n records P₀ P (8192 + r) n (strandAt ev n) (J .shown) (λ i o. let d = o r (J .on-record) in (d .2, omega arith))
