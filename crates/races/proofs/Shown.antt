@@ -16,10 +16,11 @@ use borrow.Author.Tests.{eqb-true, eqb-false}
 use Rattle.jobfile.specs.declared.coding.Event.{Event}
 use Rattle.jobfile.specs.declared.coding.Event.the-variants.{Read, Write}
 use Rattle.relation.specs.Strand.{strandAt}
+use Rattle.races.specs.Race.{other, accessOf}
 use Rattle.races.specs.Places.{holds, stood, parTo, lastWrite, standing}
 use Rattle.races.specs.Shown.{Shown, Judgeable}
 use Rattle.races.specs.Entries.{put}
-use Rattle.races.proofs.Places.{last-write-next, standing-next, elsewhere-keeps, write-takes, read-takes, no-write-yet, no-read-yet}
+use Rattle.races.proofs.Places.{Kept, last-write-next, standing-next, other-keeps, elsewhere-keeps, write-takes, read-takes, no-write-yet, no-read-yet}
 use Rattle.races.proofs.Entries.{put-length, put-other, Row, row-put, row-apart, row-same}
 
 -- a read comes to stand just where nothing parallel to it stands
@@ -117,12 +118,10 @@ module _ (ev : ℕ → Event) where
       → Shown ev 0 (k + 1) P₀ (put (put P k 4294967295 4294967295) (8192 + k) 4294967295 4294967295)
   one-emptied k P₀ P S small room =
       let Q = put P k 4294967295 4294967295 in
-      let writes : Row ev 0 (k + 1) (writesAt 0) Q =
-      rw zero-add at (row-put ev 0 k (writesAt 0) P (shown-writes 0 k P₀ P S) k (k + 1) (writesAt 0) none (no-write-yet ev k)
+      let writes : Row ev 0 (k + 1) (writesAt 0) Q = rw zero-add at (row-put ev 0 k (writesAt 0) P (shown-writes 0 k P₀ P S) k (k + 1) (writesAt 0) none (no-write-yet ev k)
       (λ q l d. (omega arith, refl)) small (omega arith) (omega (arith, S .size)))
       in
-      let reads : Row ev 8192 k (readsAt 0) Q =
-      row-apart ev 8192 k (readsAt 0) P (shown-reads 0 k P₀ P S) k 4294967295 4294967295
+      let reads : Row ev 8192 k (readsAt 0) Q = row-apart ev 8192 k (readsAt 0) P (shown-reads 0 k P₀ P S) k 4294967295 4294967295
       (λ q l. (omega arith, omega arith, omega arith, omega arith))
       in
       rows-shown 0 (k + 1) P₀ (put Q (8192 + k) 4294967295 4294967295)
@@ -145,14 +144,24 @@ module _ (ev : ℕ → Event) where
       rows-shown (suc n) records P₀ (put P p event strand) writes reads
       (λ i o. put-other P p event strand i (inside i o .0) (inside i o .1) ∙ S .others i o) (put-length P p event strand ∙ S .size)
 
+  -- what the places are to hold is what they held
+  kept-shown : (n records : ℕ) (P₀ P : List ℕ) → ((q : ℕ) → Kept ev q n) → Shown ev n records P₀ P → Shown ev (suc n) records P₀ P
+  kept-shown n records P₀ P kept S =
+      rows-shown (suc n) records P₀ P
+      (row-same ev 0 records (writesAt n) P (shown-writes n records P₀ P S) (writesAt (suc n)) (λ q. kept q .same-write))
+      (row-same ev 8192 records (readsAt n) P (shown-reads n records P₀ P S) (readsAt (suc n)) (λ q. kept q .same-read)) (S .others) (S .size)
+
+  -- an event that is no access leaves the places as they are
+  pub other-shown : (n records : ℕ) (P₀ P : List ℕ) → accessOf (ev n) ≡ other → Shown ev n records P₀ P → Shown ev (suc n) records P₀ P
+  other-shown n records P₀ P e S = kept-shown n records P₀ P (λ q. other-keeps ev q n e) S
+
 -- An access that may be judged, and does not race: what it makes of the places.
 module _ {ev : ℕ → Event} {n records : ℕ} {P₀ P L : List ℕ} {r at strand : ℕ} where
   -- a write becomes the last one
   pub write-shown : Judgeable ev n records P₀ P L (Write r) r at strand → Shown ev (suc n) records P₀ (put P r at strand)
   write-shown J =
       let writes = shown-writes ev n records P₀ P (J .shown) in
-      let reads =
-      row-apart ev 8192 records (readsAt ev n) P (shown-reads ev n records P₀ P (J .shown)) r n (strandAt ev n)
+      let reads = row-apart ev 8192 records (readsAt ev n) P (shown-reads ev n records P₀ P (J .shown)) r n (strandAt ev n)
       (λ q l. (omega arith, omega arith, omega arith, omega arith))
       in
       rw (J .number, J .strand-is)
@@ -170,8 +179,7 @@ module _ {ev : ℕ → Event} {n records : ℕ} {P₀ P L : List ℕ} {r at stra
     pub read-shown : holds (parTo ev n) (standing ev r n) ≡ false → Shown ev (suc n) records P₀ (put P (8192 + r) at strand)
     read-shown f =
         let reads = shown-reads ev n records P₀ P (J .shown) in
-        let writes =
-        row-apart ev 0 records (writesAt ev n) P (shown-writes ev n records P₀ P (J .shown)) (8192 + r) n (strandAt ev n)
+        let writes = row-apart ev 0 records (writesAt ev n) P (shown-writes ev n records P₀ P (J .shown)) (8192 + r) n (strandAt ev n)
         (λ q l. (omega arith, omega arith, omega arith, omega arith))
         in
         rw (J .number, J .strand-is)
@@ -183,11 +191,7 @@ module _ {ev : ℕ → Event} {n records : ℕ} {P₀ P L : List ℕ} {r at stra
 
     -- and changes nothing where the standing read is parallel to it
     pub read-kept : holds (parTo ev n) (standing ev r n) ≡ true → Shown ev (suc n) records P₀ P
-    read-kept t =
-        rows-shown ev (suc n) records P₀ P
-        (row-same ev 0 records (writesAt ev n) P (shown-writes ev n records P₀ P (J .shown)) (writesAt ev (suc n)) same-writes)
-        (row-same ev 8192 records (readsAt ev n) P (shown-reads ev n records P₀ P (J .shown)) (readsAt ev (suc n)) (λ q. same q (eqb r q) refl))
-        (J .shown .others) (J .shown .size)
+    read-kept t = kept-shown ev n records P₀ P (λ q. record { same-write = same-writes q; same-read = same q (eqb r q) refl }) (J .shown)
       where
         same : (q : ℕ) (c : Bool) → eqb r q ≡ c → standing ev q (suc n) ≡ standing ev q n
         same q true e =
