@@ -9,7 +9,7 @@ use native.Mathlib.Omega.{arith}
 use Rattle.jobfile.specs.declared.coding.Event.{Event}
 use Rattle.jobfile.specs.declared.coding.Decoded.the-variants.{Event as An, Refused as Unread}
 use Rattle.jobfile.specs.Refusals.{refusalOf}
-use Rattle.jobfile.specs.declared.tasks.Traced.the-variants.{Whole, Refused}
+use Rattle.jobfile.specs.declared.tasks.Traced.the-variants.{Refused}
 use Rattle.jobfile.specs.Coding.{decodeAt}
 use Rattle.jobfile.specs.Tasks.{go, stop, stepOn, stepOf, resume, finish, traceFrom, traceOf, tasksOf}
 

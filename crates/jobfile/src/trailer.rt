@@ -1,6 +1,6 @@
 // The trailer, the last 16 bytes of a file, and the name in front: refusals 1 to 7.
 ghost use mathlib.Core.Path.{_≡_};
-ghost use Prim.Native.Nat.{ℕ, _+_, _*_, _-_, _<_, _≤_};
+ghost use Prim.Native.Nat.{_+_, _*_, _-_, _<_, _≤_};
 ghost use lib.ListN.{length};
 ghost use Rattle.jobfile.specs.Trailer.{startsWith, quad as quadOf, wordAt, trailerFault, headOf, HeadFits, printable as printableIn};
 
