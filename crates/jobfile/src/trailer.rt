@@ -15,6 +15,9 @@ pub enum Head {
     Refused(u32),
 }
 
+// The last four bytes of every file: compared when reading, stored when writing.
+pub const MARK: [u8; 4] = *b"VJT1";
+
 // The head of a file: the trailer is read first.
 pub fn read_head(file: &[u8]) -> Head
     ensures { λ r. ⌜ r ≡ headOf (now (file .entry)) ⌝ }
@@ -25,7 +28,7 @@ pub fn read_head(file: &[u8]) -> Head
         return Head::Refused(1);
     }
     let last = n - 4;
-    if !starts_with(&file[last..], b"VJT1") {
+    if !starts_with(&file[last..], &MARK) {
         return Head::Refused(2);
     }
     let before = n - 16;
