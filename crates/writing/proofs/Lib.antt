@@ -6,3 +6,5 @@ pub mod Faults
 pub mod Ends
 pub mod Numbers
 pub mod RoundTrip
+pub mod Tables
+pub mod Again
