@@ -1,23 +1,22 @@
 -- An accepted file, written again from its parts, is the same file. Assumes nothing.
 use Prim.Native.Nat.{ℕ, suc, _+_, _*_, _-_, _/_, _%_, _<_, _≤_}
 use mathlib.Core.Path.{_≡_, refl, sym, ap, _∙_}
-use mathlib.Core.List.{List, [], _∷_, _++_, append-assoc}
+use mathlib.Core.List.{List, [], _∷_, _++_}
 use mathlib.Core.Bool.{Bool, true, false, cond}
 use lib.ListN.{length, getD, take, drop, length-drop, take-append-drop}
 use lib.Seq.{drop-cons, drop-drop, length-take-le}
 use lib.Dec.{eqb, ltb}
 use native.Mathlib.Omega.{arith}
-use borrow.Author.Tests.{eqb-true, ltb-false}
+use borrow.Author.Tests.{eqb-true}
 use Rattle.jobfile.specs.declared.Job.{Job}
 use Rattle.jobfile.specs.declared.Checked.the-variants.{Accepted}
-use Rattle.jobfile.specs.declared.trailer.Head.{Head}
 use Rattle.jobfile.specs.declared.trailer.Head.the-variants.{Whole, Refused}
 use Rattle.jobfile.specs.Trailer.{mark, quad, wordAt, startsWith, printable, trailerFault, headNamed, headSized, headOf}
-use Rattle.jobfile.specs.File.{checkOf, eventsFrom, recordCount, eventPart}
-use Rattle.jobfile.proofs.Whole.{Behind, behind, accepted-fits}
+use Rattle.jobfile.specs.File.{checkOf, eventsFrom}
+use Rattle.jobfile.proofs.Whole.{behind, accepted-fits}
 use Rattle.writing.specs.declared.Written.the-variants.{Bytes}
-use Rattle.writing.specs.Written.{four, trailer, writtenFile, writeOf, outAfter}
-use Rattle.writing.specs.RoundTrip.{namePart, AreBytes, SameBytes, ReadWritesBack}
+use Rattle.writing.specs.Written.{four, trailer, writtenFile, writeOf}
+use Rattle.writing.specs.RoundTrip.{AreBytes, SameBytes, ReadWritesBack}
 use Rattle.writing.proofs.Answers.{length-written, give-bytes, out-by}
 use Rattle.writing.proofs.Faults.{Parts, parts-none}
 
@@ -93,12 +92,16 @@ module _ (f : List ℕ) (start count records : ℕ) where
     where
       b : ℕ
       b = length f - 16
+
       d : ℕ
       d = wordAt f (length f - 16)
+
       n : ℕ
       n = wordAt f (length f - 12)
+
       r : ℕ
       r = wordAt f (length f - 8)
+
       by : (a : Bool) → (m : Bool) → startsWith (drop (length f - 4) f) mark ≡ m → (t : Bool) → eqb (trailerFault b d n r) 0 ≡ t → (p : Bool) → printable (take (b - d) f) ≡ p
           → cond a (Refused 1) (cond m (cond t (cond p (Whole (b - d) n r) (Refused 7)) (Refused (trailerFault b d n r))) (Refused 2)) ≡ Whole start count records → Head-read
       by true m u t v p w z = never 1 z

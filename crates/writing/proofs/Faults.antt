@@ -1,6 +1,6 @@
 -- The tests of the name, the record count and the event bytes, in the writer's order and in the reader's. Assumes nothing.
 use Prim.Native.Nat.{ℕ, _+_, _*_, _-_, _/_, _%_, _<_, _≤_}
-use mathlib.Core.Path.{_≡_, refl, sym, _∙_}
+use mathlib.Core.Path.{_≡_, refl, _∙_}
 use mathlib.Core.Logic.{_⊎_, inl, inr}
 use mathlib.Core.List.{List}
 use mathlib.Core.Bool.{Bool, true, false, cond}
@@ -91,7 +91,7 @@ module _ (name : List ℕ) (records bytes : ℕ) where
               few = ltb-false 4096 records x;
               whole = eqb-true (bytes % 4) 0 y;
               count = ltb-false 1000000 (bytes / 4) z;
-            }
+            },
           )
 
   pub parts-none : Parts → partsFault name records bytes ≡ 0

@@ -6,7 +6,7 @@ use mathlib.Core.Bool.{Bool, true, false, cond}
 use lib.ListN.{length}
 use lib.Dec.{eqb, ltb}
 use native.Mathlib.Omega.{arith}
-use borrow.Author.Tests.{eqb-true, eqb-false}
+use borrow.Author.Tests.{eqb-false}
 use Rattle.jobfile.specs.Refusals.{refusalOf}
 use Rattle.jobfile.specs.declared.coding.Event.{Event}
 use Rattle.jobfile.specs.declared.coding.Event.the-variants.{Spawn, End, Sync, Read, Write}

@@ -1,4 +1,4 @@
--- What holds between writing and reading: three theorems, as types. They are proved in proofs/RoundTrip.antt and proofs/Tables.antt.
+-- What holds of writing beside its contract, as types: that no second answer fits, and three theorems between writing and reading.
 use Prim.Native.Nat.{ℕ, _/_, _≤_, _<_}
 use mathlib.Core.Path.{_≡_}
 use mathlib.Core.Logic.{_⊎_}
@@ -15,6 +15,16 @@ use Rattle.writing.specs.Written.{writtenFile, writeOf, outAfter, refusa
 -- the name that reading gives
 abbrev pub namePart : List ℕ → List ℕ
 namePart file = take (nameLength (checkOf file)) file
+
+-- No second answer and no second contents fit the contract of `write`: w is what it gives, left what it leaves in out.
+pub record Fits (name : List ℕ) (records : ℕ) (events out : List ℕ) (w : Written) (left : List ℕ) : Type 0 where
+  pub answer : w ≡ writeOf name records events (length out)
+  pub contents : left ≡ outAfter name records events out
+
+abbrev pub OneAnswer : Type 0
+OneAnswer =
+    (name : List ℕ) (records : ℕ) (events out : List ℕ) (w v : Written) (left rest : List ℕ)
+    → Fits name records events out w left → Fits name records events out v rest → (w ≡ v) × (left ≡ rest)
 
 -- 1. What is written is accepted, and reading it gives the same name, events and record count.
 pub record ReadBack (file name : List ℕ) (records : ℕ) (events : List ℕ) : Type 0 where
@@ -60,5 +70,5 @@ abbrev pub SameTables : Type 0
 SameTables =
     (name : List ℕ) (records : ℕ) (events : List ℕ) (room : ℕ)
     → (records < 4294967296 → length events < 4294967296 → SameRefusals (writeOf name records events room) (checkOf (writtenFile name records events)))
-    × ( (4294967296 ≤ records) ⊎ (4294967296 ≤ length events)
-          → (3 ≤ refusalNumber (writeOf name records events room)) × (refusalNumber (writeOf name records events room) ≤ 7) )
+    × ((4294967296 ≤ records) ⊎ (4294967296 ≤ length events)
+    → (3 ≤ refusalNumber (writeOf name records events room)) × (refusalNumber (writeOf name records events room) ≤ 7))

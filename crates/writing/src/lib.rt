@@ -74,7 +74,7 @@ fn parts_fault(name: &[u8], records: usize, bytes: usize) -> u32
 }
 
 // The name, the events, the trailer.
-// requires: the file fits, and its numbers fit four bytes each; `write` has tested both.
+// requires: the file fits; `write` has tested it.
 fn put_file(out: &mut [u8], name: &[u8], records: usize, events: &[u8])
     requires { ⌜ length (now name) + length (now events) + 16 ≤ length (now out) ⌝ }
     ensures { λ _. ⌜ now (out .exit) ≡ laid (now (out .entry)) 0 (writtenFile (now (name .entry)) records (now (events .entry))) ⌝ }
@@ -87,6 +87,7 @@ fn put_file(out: &mut [u8], name: &[u8], records: usize, events: &[u8])
 }
 
 // The distance, the event count, the record count and the mark, from `at` on.
+// requires: they fit.
 fn put_trailer(out: &mut [u8], at: usize, distance: usize, records: usize)
     requires { ⌜ at + 16 ≤ length (now out) ⌝ }
     ensures { λ _. ⌜ now (out .exit) ≡ laid (now (out .entry)) at (trailer distance (distance / 4) records) ⌝ }
@@ -97,7 +98,8 @@ fn put_trailer(out: &mut [u8], at: usize, distance: usize, records: usize)
     put_all(out, at + 12, &MARK);
 }
 
-// Four bytes of a number, the least first.
+// Four bytes of a number, the least first, from `at` on.
+// requires: they fit.
 fn put_number(out: &mut [u8], at: usize, n: usize)
     requires { ⌜ at + 4 ≤ length (now out) ⌝ }
     ensures { λ _. ⌜ now (out .exit) ≡ laid (now (out .entry)) at (four n) ⌝ }
@@ -109,6 +111,7 @@ fn put_number(out: &mut [u8], at: usize, n: usize)
 }
 
 // All of `bytes`, from `at` on.
+// requires: they fit.
 fn put_all(out: &mut [u8], at: usize, bytes: &[u8])
     requires { ⌜ at + length (now bytes) ≤ length (now out) ⌝ }
     ensures { λ _. ⌜ now (out .exit) ≡ laid (now (out .entry)) at (now (bytes .entry)) ⌝ }
