@@ -4,9 +4,9 @@
 // refused by its number and nothing is stored. The public call has no `requires`.
 ghost use mathlib.Core.Path.{_≡_};
 ghost use Prim.Native.Nat.{_+_, _*_, _/_, _%_, _<_, _≤_};
-ghost use mathlib.Core.List.{_∷_, []};
+ghost use mathlib.Core.Bool.{true};
 ghost use lib.ListN.{length};
-ghost use Rattle.writing.specs.Written.{four, trailer, writtenFile, partsFault, writeOf, outAfter, WriteFits};
+ghost use Rattle.writing.specs.Written.{four, trailer, writtenFile, nameFits, recordsFit, partsFault, writeOf, outAfter, WriteFits};
 ghost use Rattle.writing.specs.Laid.{laid};
 use jobfile::MARK;
 use jobfile::Refusal;
@@ -49,19 +49,15 @@ pub fn write(name: &[u8], records: usize, events: &[u8], out: &mut [u8]) -> Writ
 // bytes give, or 0.
 fn parts_fault(name: &[u8], records: usize, bytes: usize) -> u32
     ensures { λ r. ⌜ r ≡ partsFault (now (name .entry)) records bytes ⌝ }
-    ensures { λ r. ⌜ (r ≡ 0 → (length (now (name .entry)) ≤ 64) × (0 < records) × (records ≤ 4096) × (bytes ≤ 4000000)) ⌝ }
+    ensures { λ r. ⌜ (r ≡ 0 → (length (now (name .entry)) ≤ 64) × (bytes ≤ 4000000)) ⌝ }
     ensures { λ r. ⌜ r ≤ 7 ⌝ }
 {
-    if name.len() > 64 {
+    let named = name_fits(name);
+    let counted = records_fit(records);
+    if !named {
         return 7;
     }
-    if !printable(name) {
-        return 7;
-    }
-    if records == 0 {
-        return 3;
-    }
-    if records > 4096 {
+    if !counted {
         return 3;
     }
     if bytes % 4 != 0 {
@@ -71,6 +67,30 @@ fn parts_fault(name: &[u8], records: usize, bytes: usize) -> u32
         return 4;
     }
     0
+}
+
+// Whether the name is 0 to 64 bytes, each 32 to 126.
+fn name_fits(name: &[u8]) -> bool
+    ensures { λ r. ⌜ r ≡ nameFits (now (name .entry)) ⌝ }
+    ensures { λ r. ⌜ (r ≡ true → length (now (name .entry)) ≤ 64) ⌝ }
+{
+    if name.len() > 64 {
+        return false;
+    }
+    printable(name)
+}
+
+// Whether the record count is 1 to 4,096.
+fn records_fit(records: usize) -> bool
+    ensures { λ r. ⌜ r ≡ recordsFit records ⌝ }
+{
+    if records == 0 {
+        return false;
+    }
+    if records > 4096 {
+        return false;
+    }
+    true
 }
 
 // The name, the events, the trailer.
