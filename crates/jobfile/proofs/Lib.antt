@@ -4,3 +4,4 @@ pub mod Flags
 pub mod Turns
 pub mod Whole
 pub mod Accepted
+pub mod Cases
