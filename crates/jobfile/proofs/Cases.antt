@@ -175,8 +175,8 @@ codings =
     ∷ []
 
 -- in the order of 01: 8 of an event comes first, and what an earlier event gives comes before what a later one does
-abbrev records : List Case
-records =
+abbrev recordNumbers : List Case
+recordNumbers =
     (job ab 1 (R 0 ∷ []), taken 2 1 1 1)
     ∷ (job ab 1 (R 1 ∷ []), refused 9 0)
     ∷ (job ab 1 (W 1 ∷ []), refused 9 0)
@@ -191,9 +191,28 @@ records =
     ∷ (job ab 1 (S ∷ R 1 ∷ []), refused 9 1)
     ∷ []
 
--- ---- tasks and strands: refusals 10, 11 and 13
+-- ---- 01's whole file, name `L4`
 
--- 01's small jobs 1 to 10
+abbrev l4 : List ℕ
+l4 =
+    0x4C ∷ 0x34 ∷ 0x05 ∷ 0x00 ∷ 0x00 ∷ 0x00 ∷ 0x01 ∷ 0x00 ∷ 0x00 ∷ 0x00 ∷ 0x04 ∷ 0x00 ∷ 0x00 ∷ 0x00 ∷ 0x05 ∷ 0x00 ∷ 0x01 ∷ 0x00
+    ∷ 0x02 ∷ 0x00 ∷ 0x00 ∷ 0x00 ∷ 0x04 ∷ 0x00 ∷ 0x00 ∷ 0x00 ∷ 0x05 ∷ 0x00 ∷ 0x01 ∷ 0x00 ∷ 0x03 ∷ 0x00 ∷ 0x00 ∷ 0x00
+    ∷ 0x20 ∷ 0x00 ∷ 0x00 ∷ 0x00 ∷ 0x08 ∷ 0x00 ∷ 0x00 ∷ 0x00 ∷ 0x02 ∷ 0x00 ∷ 0x00 ∷ 0x00 ∷ 0x56 ∷ 0x4A ∷ 0x54 ∷ 0x31
+    ∷ []
+
+abbrev l4Events : List (List ℕ)
+l4Events = W 0 ∷ S ∷ R 0 ∷ W 1 ∷ E ∷ R 0 ∷ W 1 ∷ J ∷ []
+
+pub l4-written : l4 ≡ job (0x4C ∷ 0x34 ∷ []) 2 l4Events
+l4-written = refl
+
+pub l4-parts : (take (nameLength (checkOf l4)) l4 ≡ 0x4C ∷ 0x34 ∷ []) × (eventPart l4 ≡ bytesOf l4Events)
+unfolding eventOf wordAt startsWith printable trailerFault headNamed headSized headOf taskFault stepOn finish traceFrom checkOf
+l4-parts = (refl, refl)
+
+-- ---- tasks and strands: refusals 10 to 13
+
+-- 01's small jobs 1 to 10, and its whole file
 abbrev small : List Case
 small =
     (job [] 1 [], taken 0 0 1 1)
@@ -206,6 +225,7 @@ small =
     ∷ (job [] 1 (S ∷ W 0 ∷ E ∷ J ∷ S ∷ W 0 ∷ E ∷ []), taken 0 7 1 6)
     ∷ (job [] 1 (S ∷ S ∷ W 0 ∷ E ∷ J ∷ E ∷ W 0 ∷ []), taken 0 7 1 6)
     ∷ (job [] 1 (S ∷ W 0 ∷ E ∷ S ∷ J ∷ W 0 ∷ E ∷ []), taken 0 7 1 5)
+    ∷ (l4, taken 2 8 2 4)
     ∷ []
 
 abbrev pairs : ℕ → List (List ℕ)
@@ -213,8 +233,8 @@ pairs zero = []
 pairs (suc n) = S ∷ E ∷ pairs n
 
 -- a sync with nothing to join begins no strand, nor does the join inside an end; "64 tasks open at once (root counted)"
-abbrev nested : List Case
-nested =
+abbrev tasks : List Case
+tasks =
     (job [] 1 (J ∷ []), taken 0 1 1 1)
     ∷ (job [] 1 (S ∷ E ∷ J ∷ J ∷ []), taken 0 4 1 4)
     ∷ (job [] 1 (S ∷ S ∷ E ∷ E ∷ []), taken 0 4 1 5)
@@ -231,25 +251,6 @@ nested =
     ∷ (job [] 1 (replicate 63 S ++ (E ∷ S ∷ S ∷ [])), refused 11 65)
     ∷ (job [] 1 (pairs 64), taken 0 128 1 129)
     ∷ []
-
-abbrev pub cases : List Case
-cases = short ++ (marks ++ (recordCounts ++ (eventCounts ++ (distances ++ (names ++ (codings ++ (records ++ (small ++ nested))))))))
-
-pub answered : Answered cases
-unfolding eventOf wordAt startsWith printable trailerFault headNamed headSized headOf taskFault stepOn finish traceFrom checkOf
-answered = refl
-
--- ---- "4,096 strands": refusal 12
-
-abbrev limits : List Case
-limits =
-    (job [] 1 (pairs 2047 ++ (J ∷ [])), taken 0 4095 1 4096)
-    ∷ (job [] 1 (pairs 2048), refused 12 4095)
-    ∷ []
-
-pub limits-answered : Answered limits
-unfolding eventOf wordAt startsWith printable trailerFault headNamed headSized headOf taskFault stepOn finish traceFrom checkOf
-limits-answered = refl
 
 -- the last events of a file, from the open tasks and the strands begun before them
 abbrev lastly : List Bool → ℕ → List (List ℕ) → Traced
@@ -274,25 +275,22 @@ pub full-answered : map (λ c. c .0) full ≡ map (λ c. c .1) full
 unfolding eventOf taskFault stepOn finish traceFrom
 full-answered = refl
 
--- ---- 01's whole file, name `L4`
+-- ---- all the files
 
-abbrev l4 : List ℕ
-l4 =
-    0x4C ∷ 0x34 ∷ 0x05 ∷ 0x00 ∷ 0x00 ∷ 0x00 ∷ 0x01 ∷ 0x00 ∷ 0x00 ∷ 0x00 ∷ 0x04 ∷ 0x00 ∷ 0x00 ∷ 0x00 ∷ 0x05 ∷ 0x00 ∷ 0x01 ∷ 0x00
-    ∷ 0x02 ∷ 0x00 ∷ 0x00 ∷ 0x00 ∷ 0x04 ∷ 0x00 ∷ 0x00 ∷ 0x00 ∷ 0x05 ∷ 0x00 ∷ 0x01 ∷ 0x00 ∷ 0x03 ∷ 0x00 ∷ 0x00 ∷ 0x00
-    ∷ 0x20 ∷ 0x00 ∷ 0x00 ∷ 0x00 ∷ 0x08 ∷ 0x00 ∷ 0x00 ∷ 0x00 ∷ 0x02 ∷ 0x00 ∷ 0x00 ∷ 0x00 ∷ 0x56 ∷ 0x4A ∷ 0x54 ∷ 0x31
+abbrev pub cases : List Case
+cases = short ++ (marks ++ (recordCounts ++ (eventCounts ++ (distances ++ (names ++ (codings ++ (recordNumbers ++ (small ++ tasks))))))))
+
+pub answered : Answered cases
+unfolding eventOf wordAt startsWith printable trailerFault headNamed headSized headOf taskFault stepOn finish traceFrom checkOf
+answered = refl
+
+-- 2,047 pairs and a join have 4,096 strands; of 2,048 pairs the last end is refused
+abbrev limits : List Case
+limits =
+    (job [] 1 (pairs 2047 ++ (J ∷ [])), taken 0 4095 1 4096)
+    ∷ (job [] 1 (pairs 2048), refused 12 4095)
     ∷ []
 
-abbrev l4Events : List (List ℕ)
-l4Events = W 0 ∷ S ∷ R 0 ∷ W 1 ∷ E ∷ R 0 ∷ W 1 ∷ J ∷ []
-
-pub l4-written : l4 ≡ job (0x4C ∷ 0x34 ∷ []) 2 l4Events
-l4-written = refl
-
-pub l4-taken : checkOf l4 ≡ taken 2 8 2 4
+pub limits-answered : Answered limits
 unfolding eventOf wordAt startsWith printable trailerFault headNamed headSized headOf taskFault stepOn finish traceFrom checkOf
-l4-taken = refl
-
-pub l4-parts : (take (nameLength (checkOf l4)) l4 ≡ 0x4C ∷ 0x34 ∷ []) × (eventPart l4 ≡ bytesOf l4Events)
-unfolding eventOf wordAt startsWith printable trailerFault headNamed headSized headOf taskFault stepOn finish traceFrom checkOf
-l4-parts = (refl, refl)
+limits-answered = refl
