@@ -1,3 +1,4 @@
+pub mod Cases
 pub mod Tests
 pub mod Head
 pub mod Flags
