@@ -19,11 +19,11 @@ use Rattle.orders.specs.Model.{State, Holds, insertState, insertCount, diffs}
 use Rattle.orders.proofs.Entries.{forwards, forwards-end, backwards, backwards-end}
 use Rattle.orders.proofs.Labels.{labels-rise}
 use Rattle.strands.specs.Cells.{pointAt}
-use Rattle.strands.specs.Orders.{hebrewAt, behindLast}
+use Rattle.strands.specs.Orders.{upTo, hebrewAt, behindLast}
 use Rattle.strands.specs.States.{grow, counted, stateAt, countAt, lastPoint, englishState, hebrewState, englishCount, hebrewCount}
 use Rattle.strands.proofs.Cells.{oneAt, begun-next}
 use Rattle.strands.proofs.Lists.{pairs-map}
-use Rattle.strands.proofs.Orders.{upTo, english-order}
+use Rattle.strands.proofs.Orders.{english-order}
 use Rattle.strands.proofs.Hebrew.{hebrew-order}
 use Rattle.strands.proofs.States.{english-size, hebrew-size, english-state-order, hebrew-state-order}
 use Rattle.strands.proofs.Bound.{english-bound, hebrew-bound}
