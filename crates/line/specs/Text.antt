@@ -1,0 +1,82 @@
+-- The one line that the program prints, byte by byte, as a function of the input's bytes.
+use Prim.Native.Nat.{ℕ, zero, suc, _+_, _/_, _%_}
+use Prim.Native.String.{String, [] as empty, _∷_ as _then_}
+use Prim.Native.Char.{code}
+use mathlib.Core.Path.{_≡_}
+use mathlib.Core.Bool.{cond}
+use mathlib.Core.List.{List, [], _∷_, _++_}
+use lib.Dec.{ltb}
+use lib.ListN.{length, take, drop}
+use Rattle.jobfile.specs.File.{checkOf, nameLength, eventCount, eventPart}
+use Rattle.jobfile.specs.Trace.{eventAt}
+use Rattle.jobfile.specs.declared.coding.Event.{Event}
+use Rattle.jobfile.specs.declared.coding.Event.the-variants.{Spawn, End, Sync, Read, Write}
+use Rattle.judging.specs.Answers.{judgeOf}
+use Rattle.judging.specs.declared.Answer.{Answer}
+use Rattle.judging.specs.declared.Answer.the-variants.{Clean, Race, Refused}
+use Rattle.line.specs.declared.Lined.{Lined}
+use Rattle.line.specs.declared.Lined.the-variants.{Bytes, Short}
+
+-- a word as bytes
+abbrev pub ascii : String → List ℕ
+ascii empty = []
+ascii (c then s) = code c ∷ ascii s
+
+-- a number in decimal, without leading zeros: a number below 10 is one digit, any other is that of its tenth and one digit more.
+-- `most` digits at most; a number has fewer digits than one more than itself.
+unfoldable pub digitsWithin : ℕ → ℕ → List ℕ
+digitsWithin zero n = []
+digitsWithin (suc most) n = cond (ltb n 10) ((48 + n) ∷ []) (digitsWithin most (n / 10) ++ ((48 + n % 10) ∷ []))
+
+abbrev pub digitsOf : ℕ → List ℕ
+digitsOf n = digitsWithin (suc n) n
+
+-- "the kinds of both accesses": R or W; an event that is no access, which no race names, stands as R
+abbrev pub letterOf : Event → ℕ
+letterOf Spawn = 82
+letterOf End = 82
+letterOf Sync = 82
+letterOf (Read r) = 82
+letterOf (Write r) = 87
+
+-- The parts of a line.
+abbrev pub pairText : ℕ → ℕ → ℕ → List ℕ
+pairText number first second =
+    ascii "race record " ++ digitsOf number ++ (ascii " first " ++ digitsOf first ++ (ascii " second " ++ digitsOf second))
+
+abbrev pub kindsText : Event → Event → List ℕ
+kindsText e f = ascii " kinds " ++ (letterOf e ∷ letterOf f ∷ [])
+
+abbrev pub countsText : ℕ → ℕ → ℕ → List ℕ
+countsText strands english hebrew =
+    ascii " strands " ++ digitsOf strands ++ (ascii " english " ++ digitsOf english ++ (ascii " hebrew " ++ digitsOf hebrew))
+
+-- "the name to the line's end (an empty name leaves the space before it)"
+abbrev pub nameText : List ℕ → List ℕ
+nameText name = ascii " name " ++ (name ++ ascii "\n")
+
+-- "Fields: record, the two event numbers, the kinds of both accesses, strands, the two label counts, the name to the line's end.
+-- A clean line is `clean strands S english A hebrew B name N`; a refusal is `refused N event K`."
+-- The line of an answer, for the event part and the name of the file.
+abbrev pub answerText : Answer → List ℕ → List ℕ → List ℕ
+answerText (Clean strands english hebrew) events name = ascii "clean" ++ (countsText strands english hebrew ++ nameText name)
+answerText (Race first second number strands english hebrew) events name =
+    pairText number first second ++ (kindsText (eventAt events first) (eventAt events second) ++ (countsText strands english hebrew ++ nameText name))
+answerText (Refused r) events name =
+    ascii "refused " ++ digitsOf (r .number) ++ (ascii " event " ++ digitsOf (r .event) ++ ascii "\n")
+
+-- "judges all its events": the answer for an input and the lengths of labels, links and places
+abbrev pub answerOf : List ℕ → ℕ → ℕ → ℕ → Answer
+answerOf input labels links places = judgeOf input (eventCount (checkOf input)) labels links places
+
+unfoldable pub lineOf : List ℕ → ℕ → ℕ → ℕ → List ℕ
+lineOf input labels links places =
+    answerText (answerOf input labels links places) (eventPart input) (take (nameLength (checkOf input)) input)
+
+-- what comes back for a line and an output of so many bytes
+unfoldable pub linedOf : List ℕ → ℕ → Lined
+linedOf line room = cond (ltb room (length line)) Short (Bytes (length line))
+
+-- what is in the output then: the line and what was there behind it, or all as it was
+unfoldable pub outOf : List ℕ → List ℕ → List ℕ
+outOf line out = cond (ltb (length out) (length line)) out (line ++ drop (length line) out)
