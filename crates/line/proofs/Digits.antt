@@ -2,11 +2,12 @@
 use Prim.Native.Nat.{ℕ, zero, suc, _+_, _-_, _*_, _/_, _%_, _^_, _≤_, _<_}
 use native.Mathlib.Omega.{arith}
 use native.Mathlib.Numerals.{unary-clauses}
-use native.Mathlib.Nat.{pow-succ', pow-zero, one-le-pow}
+use native.Mathlib.Nat.{pow-succ', pow-zero, one-le-pow, pow-le-pow-right}
 use mathlib.Core.Path.{_≡_, refl, sym, _∙_}
+use mathlib.Core.Bool.{Bool, true, false}
 use mathlib.Core.List.{List, [], _∷_, _++_}
-use lib.Dec.{ltb}
-use borrow.Author.Tests.{lt-ltb, le-ltb}
+use lib.Dec.{ltb, leb}
+use borrow.Author.Tests.{lt-ltb, le-ltb, leb-true, leb-false}
 use Rattle.io.specs.Digits.{digits, Fewest}
 use Rattle.line.specs.Text.{digitsWithin, digitsOf}
 
@@ -27,3 +28,15 @@ digits-fewest (suc k) n (suc m) l h f =
 pub fewest-are-digits : (k n : ℕ) → Fewest 10 1 n k → digits 10 k n ≡ digitsOf n
 fewest-are-digits zero n f = absurd (omega arith)
 fewest-are-digits (suc k) n f = digits-fewest k n (suc n) (omega arith) (f .1) (λ z. simp unary-clauses at (f .2 (omega arith)))
+
+-- a number of 64 bits has at most 20 digits
+pub at-most-20 : (k n : ℕ) → n < 2 ^ 64 → Fewest 10 1 n k → k ≤ 20
+at-most-20 k n small f = by (leb k 20) refl
+  where
+    by : (t : Bool) → leb k 20 ≡ t → k ≤ 20
+    by true e = leb-true k 20 e
+    by false e =
+        let many : 21 ≤ k = omega (arith, leb-false k 20 e) in
+        let lower : 20 ≤ k - 1 = omega arith in
+        let large : 10 ^ 20 ≤ 10 ^ (k - 1) = pow-le-pow-right (omega arith) lower in
+        absurd (omega (arith, f .2 (omega arith)))

@@ -1,5 +1,5 @@
 -- The one line that the program prints, byte by byte, as a function of the input's bytes.
-use Prim.Native.Nat.{ℕ, zero, suc, _+_, _/_, _%_}
+use Prim.Native.Nat.{ℕ, zero, suc, _+_, _*_, _/_, _%_, _≤_}
 use Prim.Native.String.{String, [] as empty, _∷_ as _then_}
 use Prim.Native.Char.{code}
 use mathlib.Core.Path.{_≡_}
@@ -11,6 +11,7 @@ use Rattle.jobfile.specs.File.{checkOf, nameLength, eventCount, eventPart}
 use Rattle.jobfile.specs.Trace.{eventAt}
 use Rattle.jobfile.specs.declared.coding.Event.{Event}
 use Rattle.jobfile.specs.declared.coding.Event.the-variants.{Spawn, End, Sync, Read, Write}
+use Rattle.jobfile.specs.declared.refusal.Refusal.{Refusal}
 use Rattle.judging.specs.Answers.{judgeOf}
 use Rattle.judging.specs.declared.Answer.{Answer}
 use Rattle.judging.specs.declared.Answer.the-variants.{Clean, Race, Refused}
@@ -55,6 +56,9 @@ countsText strands english hebrew =
 abbrev pub nameText : List ℕ → List ℕ
 nameText name = ascii " name " ++ (name ++ ascii "\n")
 
+abbrev pub refusalText : Refusal → List ℕ
+refusalText r = ascii "refused " ++ digitsOf (r .number) ++ (ascii " event " ++ digitsOf (r .event) ++ ascii "\n")
+
 -- "Fields: record, the two event numbers, the kinds of both accesses, strands, the two label counts, the name to the line's end.
 -- A clean line is `clean strands S english A hebrew B name N`; a refusal is `refused N event K`."
 -- The line of an answer, for the event part and the name of the file.
@@ -62,8 +66,7 @@ abbrev pub answerText : Answer → List ℕ → List ℕ → List ℕ
 answerText (Clean strands english hebrew) events name = ascii "clean" ++ (countsText strands english hebrew ++ nameText name)
 answerText (Race first second number strands english hebrew) events name =
     pairText number first second ++ (kindsText (eventAt events first) (eventAt events second) ++ (countsText strands english hebrew ++ nameText name))
-answerText (Refused r) events name =
-    ascii "refused " ++ digitsOf (r .number) ++ (ascii " event " ++ digitsOf (r .event) ++ ascii "\n")
+answerText (Refused r) events name = refusalText r
 
 -- "judges all its events": the answer for an input and the lengths of labels, links and places
 abbrev pub answerOf : List ℕ → ℕ → ℕ → ℕ → Answer
@@ -80,3 +83,9 @@ linedOf line room = cond (ltb room (length line)) Short (Bytes (length line))
 -- what is in the output then: the line and what was there behind it, or all as it was
 unfoldable pub outOf : List ℕ → List ℕ → List ℕ
 outOf line out = cond (ltb (length out) (length line)) out (line ++ drop (length line) out)
+
+-- the pair of an answer that names one is within so many bytes of events
+abbrev pub PairWithin : Answer → ℕ → Type 0
+PairWithin (Clean strands english hebrew) room = Unit {0}
+PairWithin (Race first second number strands english hebrew) room = (4 * first + 4 ≤ room) × (4 * second + 4 ≤ room)
+PairWithin (Refused r) room = Unit {0}

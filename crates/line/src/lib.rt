@@ -2,6 +2,7 @@
 //
 // Every input is dealt with, and every byte of the line is determined by the input's bytes. No
 // public entry point has a `requires`.
+mod answers;
 mod text;
 
 ghost use mathlib.Core.Path.{_≡_};

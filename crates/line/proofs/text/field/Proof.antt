@@ -1,3 +1,5 @@
+use native.Mathlib.Omega.{arith}
+use Rattle.line.proofs.Puts.{put-put}
 use borrow.Author.Needs.{needs}
 use Rattle.line.proofs.text.field.Statement.{statement}
 use Rattle.line.proofs.text.field.Tie as tie
@@ -20,7 +22,7 @@ same-length c = search needs
 
 -- src/text.rt:36:1
 returns : tie.Need-returns
-returns c = ?
+returns c = (put-put (c .before .before .before .before .before .before .put .ensures) (c .before .before .number .ensures .0), omega arith)
 
 pub field-spec : {M : Type 1} → statement M
 field-spec = tie.close (tie.spec put-requires number-requires same-length returns)

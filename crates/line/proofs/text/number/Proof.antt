@@ -1,3 +1,8 @@
+use Prim.Native.Nat.{_≤_}
+use mathlib.Core.Path.{_∙_}
+use lib.ListN.{length, take}
+use native.Mathlib.Omega.{arith}
+use Rattle.line.proofs.Digits.{fewest-are-digits, at-most-20}
 use borrow.Author.Needs.{needs}
 use Rattle.line.proofs.text.number.Statement.{statement}
 use Rattle.line.proofs.text.number.Tie as tie
@@ -10,6 +15,13 @@ use Rattle.line.proofs.text.put.Reads as put-reads
 decimal-requires : tie.Need-decimal-requires
 decimal-requires c κs = search needs
 
+-- the digits are at most 20
+digits-few : (c : lts.After-decimal (decimal-reads.Asked, decimal-reads.Learnt, put-reads.Asked, put-reads.Learnt) reads.Pre reads.Post)
+    → (c .decimal .result ≤ 20) × (length (take (c .decimal .result) (c .decimal .last .1 .0)) ≤ 20)
+digits-few c =
+    let few = at-most-20 (c .decimal .result) (c .before .before .before .args .n) (omega arith) (c .decimal .ensures .1 .0) in
+    (few, omega (arith, c .decimal .ensures .0 .1))
+
 -- src/text.rt:31:18
 array-share-prefix-digits : tie.Need-array-share-prefix-digits
 array-share-prefix-digits c = search needs
@@ -20,7 +32,9 @@ slice-aggregate-put c = search needs
 
 -- src/text.rt:31:5
 put-requires : tie.Need-put-requires
-put-requires c κs = ?
+put-requires c κs =
+    let few = digits-few (c .before .before) in
+    omega arith
 
 -- src/text.rt:24:1
 same-length : tie.Need-same-length
@@ -28,7 +42,9 @@ same-length c = search needs
 
 -- src/text.rt:24:1
 returns : tie.Need-returns
-returns c = ?
+returns c =
+    let d = c .before .before .before .before .before in
+    (rw (d .decimal .ensures .1 .1 ∙ fewest-are-digits (d .decimal .result) (d .before .before .before .args .n) (d .decimal .ensures .1 .0)) at (c .before .before .put .ensures), omega (arith, digits-few d))
 
 pub number-spec : {M : Type 1} → statement M
 number-spec =

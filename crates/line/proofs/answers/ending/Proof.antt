@@ -1,0 +1,49 @@
+use native.Mathlib.Omega.{arith}
+use Rattle.line.proofs.Puts.{put-put}
+use borrow.Author.Needs.{needs}
+use Rattle.line.proofs.answers.ending.Statement.{statement}
+use Rattle.line.proofs.answers.ending.Tie as tie
+use Rattle.line.proofs.answers.ending.Reads as reads
+use Rattle.line.proofs.answers.ending.Lts as lts
+use Rattle.line.proofs.text.put.Reads as put-reads
+
+-- src/answers.rt:67:26
+slice-aggregate-put : tie.Need-slice-aggregate-put
+slice-aggregate-put c = search needs
+
+-- src/answers.rt:67:9
+put-requires : tie.Need-put-requires
+put-requires c κs = search needs
+
+-- src/answers.rt:68:9
+put-requires-2 : tie.Need-put-requires-2
+put-requires-2 c κs = search needs
+
+-- src/answers.rt:69:17
+slice-aggregate-put-2 : tie.Need-slice-aggregate-put-2
+slice-aggregate-put-2 c = search needs
+
+-- src/answers.rt:69:5
+put-requires-3 : tie.Need-put-requires-3
+put-requires-3 c κs = search needs
+
+-- src/answers.rt:63:1
+same-length : tie.Need-same-length
+same-length c = search needs
+
+-- src/answers.rt:63:1
+returns : tie.Need-returns
+returns c = 
+    put-put (c .before .before .before .before .before .before .before .before .before .before .before .put .ensures) (put-put (c .before .before .before .before .before .before .before .put2 .ensures) (c .before .before .put3 .ensures))
+
+pub ending-spec : {M : Type 1} → statement M
+ending-spec =
+    tie.close
+    (tie.spec
+    slice-aggregate-put
+    put-requires
+    put-requires-2
+    slice-aggregate-put-2
+    put-requires-3
+    same-length
+    returns)
