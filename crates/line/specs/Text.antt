@@ -41,31 +41,38 @@ letterOf (Read r) = 82
 letterOf (Write r) = 87
 
 -- The parts of a line.
-abbrev pub pairText : ℕ → ℕ → ℕ → List ℕ
+unfoldable pub pairText : ℕ → ℕ → ℕ → List ℕ
 pairText number first second =
     ascii "race record " ++ digitsOf number ++ (ascii " first " ++ digitsOf first ++ (ascii " second " ++ digitsOf second))
 
-abbrev pub kindsText : Event → Event → List ℕ
+unfoldable pub kindsText : Event → Event → List ℕ
 kindsText e f = ascii " kinds " ++ (letterOf e ∷ letterOf f ∷ [])
 
-abbrev pub countsText : ℕ → ℕ → ℕ → List ℕ
+unfoldable pub countsText : ℕ → ℕ → ℕ → List ℕ
 countsText strands english hebrew =
     ascii " strands " ++ digitsOf strands ++ (ascii " english " ++ digitsOf english ++ (ascii " hebrew " ++ digitsOf hebrew))
 
 -- "the name to the line's end (an empty name leaves the space before it)"
-abbrev pub nameText : List ℕ → List ℕ
+unfoldable pub nameText : List ℕ → List ℕ
 nameText name = ascii " name " ++ (name ++ ascii "\n")
 
-abbrev pub refusalText : Refusal → List ℕ
+-- "A clean line is `clean strands S english A hebrew B name N`"
+abbrev pub cleanText : ℕ → ℕ → ℕ → List ℕ → List ℕ
+cleanText strands english hebrew name = ascii "clean" ++ (countsText strands english hebrew ++ nameText name)
+
+-- "Fields: record, the two event numbers, the kinds of both accesses, strands, the two label counts, the name to the line's end"
+abbrev pub raceText : ℕ → ℕ → ℕ → ℕ → ℕ → ℕ → List ℕ → List ℕ → List ℕ
+raceText first second number strands english hebrew events name =
+    pairText number first second ++ (kindsText (eventAt events first) (eventAt events second) ++ (countsText strands english hebrew ++ nameText name))
+
+-- "a refusal is `refused N event K`"
+unfoldable pub refusalText : Refusal → List ℕ
 refusalText r = ascii "refused " ++ digitsOf (r .number) ++ (ascii " event " ++ digitsOf (r .event) ++ ascii "\n")
 
--- "Fields: record, the two event numbers, the kinds of both accesses, strands, the two label counts, the name to the line's end.
--- A clean line is `clean strands S english A hebrew B name N`; a refusal is `refused N event K`."
--- The line of an answer, for the event part and the name of the file.
+-- the line of an answer, for the event part and the name of the file
 abbrev pub answerText : Answer → List ℕ → List ℕ → List ℕ
-answerText (Clean strands english hebrew) events name = ascii "clean" ++ (countsText strands english hebrew ++ nameText name)
-answerText (Race first second number strands english hebrew) events name =
-    pairText number first second ++ (kindsText (eventAt events first) (eventAt events second) ++ (countsText strands english hebrew ++ nameText name))
+answerText (Clean strands english hebrew) events name = cleanText strands english hebrew name
+answerText (Race first second number strands english hebrew) events name = raceText first second number strands english hebrew events name
 answerText (Refused r) events name = refusalText r
 
 -- "judges all its events": the answer for an input and the lengths of labels, links and places

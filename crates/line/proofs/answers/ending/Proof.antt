@@ -1,4 +1,5 @@
 use native.Mathlib.Omega.{arith}
+use Rattle.line.specs.Text.{nameText}
 use Rattle.line.proofs.Puts.{put-put}
 use borrow.Author.Needs.{needs}
 use Rattle.line.proofs.answers.ending.Statement.{statement}
@@ -33,8 +34,9 @@ same-length c = search needs
 
 -- src/answers.rt:63:1
 returns : tie.Need-returns
-returns c = 
-    put-put (c .before .before .before .before .before .before .before .before .before .before .before .put .ensures) (put-put (c .before .before .before .before .before .before .before .put2 .ensures) (c .before .before .put3 .ensures))
+unfolding nameText
+returns c =
+    (put-put (c .before .before .before .before .before .before .before .before .before .before .before .put .ensures) (put-put (c .before .before .before .before .before .before .before .put2 .ensures) (c .before .before .put3 .ensures)), omega arith)
 
 pub ending-spec : {M : Type 1} → statement M
 ending-spec =

@@ -1,4 +1,5 @@
 use native.Mathlib.Omega.{arith}
+use Rattle.line.specs.Text.{kindsText}
 use Rattle.line.proofs.Puts.{put-put}
 use borrow.Author.Needs.{needs}
 use Rattle.line.proofs.answers.kinds.Statement.{statement}
@@ -47,10 +48,11 @@ same-length c = search needs
 
 -- src/answers.rt:39:1
 returns : tie.Need-returns
+unfolding kindsText
 returns c =
     let d = c .before .before .before .before .before .before .before .before .before .before in
-    put-put (c .before .before .before .before .before .before .before .put .ensures)
-    (rw (d .before .before .letter .ensures, d .before .before .before .event-at .ensures, d .letter2 .ensures, d .before .event-at2 .ensures) at (c .before .before .put2 .ensures))
+    (put-put (c .before .before .before .before .before .before .before .put .ensures)
+    (rw (d .before .before .letter .ensures, d .before .before .before .event-at .ensures, d .letter2 .ensures, d .before .event-at2 .ensures) at (c .before .before .put2 .ensures)), omega arith)
 
 pub kinds-spec : {M : Type 1} → statement M
 kinds-spec =

@@ -1,4 +1,5 @@
 use native.Mathlib.Omega.{arith}
+use Rattle.line.specs.Text.{pairText}
 use Rattle.line.proofs.Puts.{put-put}
 use borrow.Author.Needs.{needs}
 use Rattle.line.proofs.answers.pair.Statement.{statement}
@@ -37,7 +38,8 @@ same-length c = search needs
 
 -- src/answers.rt:28:1
 returns : tie.Need-returns
-returns c = 
+unfolding pairText
+returns c =
     (put-put (c .before .before .before .before .before .before .before .before .before .before .before .before .field .ensures .0) (put-put (c .before .before .before .before .before .before .before .field2 .ensures .0) (c .before .before .field3 .ensures .0)), omega arith)
 
 pub pair-spec : {M : Type 1} → statement M

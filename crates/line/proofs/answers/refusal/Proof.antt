@@ -1,4 +1,5 @@
 use native.Mathlib.Omega.{arith}
+use Rattle.line.specs.Text.{refusalText}
 use Rattle.line.proofs.Puts.{put-put}
 use borrow.Author.Needs.{needs}
 use Rattle.line.proofs.answers.refusal.Statement.{statement}
@@ -42,8 +43,9 @@ same-length c = search needs
 
 -- src/answers.rt:73:1
 returns : tie.Need-returns
-returns c = 
-    put-put (c .before .before .before .before .before .before .before .before .before .before .before .before .field .ensures .0) (put-put (c .before .before .before .before .before .before .before .field2 .ensures .0) (c .before .before .put .ensures))
+unfolding refusalText
+returns c =
+    (put-put (c .before .before .before .before .before .before .before .before .before .before .before .before .field .ensures .0) (put-put (c .before .before .before .before .before .before .before .field2 .ensures .0) (c .before .before .put .ensures)), omega arith)
 
 pub refusal-spec : {M : Type 1} → statement M
 refusal-spec =
