@@ -1,0 +1,4 @@
+pub mod Course
+pub mod Demands
+pub mod Once
+pub mod Starred

@@ -1,6 +1,8 @@
 // Judging: the race that the rules name, and both orders kept as the events come.
-ghost use mathlib.Core.Path.{_≡_};
+//
+// Every byte string, every k and buffers of any length are dealt with. A refusal stores nothing.
 use jobfile::Refusal;
+use strands::Now;
 
 // Clean or race, with the strands begun and both label counts; or a refusal.
 pub enum Answer {
@@ -19,3 +21,10 @@ pub enum Answer {
     },
     Refused(Refusal),
 }
+
+// What one event leads to: the next state, or the race that it is the second access of.
+pub enum Turn {
+    Go(Now),
+    Raced { first: usize, record: usize },
+}
+

@@ -5,3 +5,6 @@ pub mod Verdict
 pub mod Named
 pub mod Cases
 pub mod Prefix
+pub mod Entries
+pub mod Shown
+pub mod Accesses

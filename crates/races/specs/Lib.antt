@@ -3,3 +3,4 @@ pub mod Race
 pub mod Places
 pub mod Verdict
 pub mod Shown
+pub mod Entries

@@ -3,3 +3,4 @@ pub mod Orders
 pub mod Frames
 pub mod States
 pub mod Standing
+pub mod Grown

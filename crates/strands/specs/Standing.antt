@@ -50,6 +50,12 @@ pub record Standing (ev : ℕ → Event) (n : ℕ) (L₀ K₀ L K lasts joins : 
   pub joins-room : length joins ≡ 64
   pub untouched : Untouched (begunAt ev n) L₀ K₀ L K
 
+-- what the beginning gives: before any event, of every trace, with strand 0 the root's last and nothing to join
+abbrev pub Started : List ℕ → List ℕ → List ℕ → List ℕ → Now → Type 0
+Started L₀ K₀ L K now =
+    (ev : ℕ → Event) (lasts joins : List ℕ) → length lasts ≡ 64 → length joins ≡ 64 → getD lasts 0 0 ≡ 0 → getD joins 0 0 ≡ 65535
+    → Standing ev 0 L₀ K₀ L K lasts joins now
+
 -- event n may be taken: it does not close the root, opens no 65th task and begins no 4,097th strand
 pub record Takes (ev : ℕ → Event) (n : ℕ) (e : Event) : Type 0 where
   pub event : ev n ≡ e

@@ -1,0 +1,145 @@
+-- What an access finds in the places: asking a place by the labels is asking whether what it holds is parallel, and each way that the
+-- two questions of an access can be answered gives what judging it is to give. Assumes nothing.
+use mathlib.Core.Path.{_≡_, refl, sym, ap, _∙_}
+use mathlib.Core.Logic.{_≢_}
+use mathlib.Core.List.{List}
+use mathlib.Core.Bool.{true, false}
+use mathlib.Core.Option.{Option, none, some}
+use Prim.Native.Nat.{ℕ, suc, _+_, _<_}
+use native.Mathlib.Omega.{arith}
+use lib.ListN.{length, getD}
+use borrow.Author.Tests.{ne-eqb}
+use Rattle.jobfile.specs.declared.coding.Event.{Event}
+use Rattle.jobfile.specs.declared.coding.Event.the-variants.{Read, Write}
+use Rattle.relation.specs.Strand.{strandAt}
+use Rattle.relation.proofs.Strand.{begun-some, begun-rises}
+use Rattle.races.specs.Race.{write, accessOf, recordOf, conflict, secondIn}
+use Rattle.races.specs.Places.{holds, parTo, lastWrite, standing}
+use Rattle.races.specs.declared.Met.the-variants.{First, Nothing}
+use Rattle.races.specs.Shown.{eventOr, strandOr, Judgeable, Askable, Answers}
+use Rattle.races.specs.Entries.{metIn, put, Place}
+use Rattle.races.proofs.Places.{holds-some, last-write-is, standing-read-is}
+use Rattle.races.proofs.Verdict.{read-clean, write-clean, last-write-races, standing-read-races}
+use Rattle.races.proofs.Shown.{write-shown, read-shown, read-kept}
+
+module _
+  {ev : ℕ → Event} {n records : ℕ} {P₀ P L : List ℕ} {e : Event} {r at strand : ℕ}
+  (J : Judgeable ev n records P₀ P L e r at strand) where
+  -- the strand of an earlier event has a label
+  labelled : (m : ℕ) → m < n → 4096 + strandAt ev m < length L
+  labelled m l = omega (arith, begun-some ev m, begun-rises ev m n (omega arith), J .few, J .labels-room)
+
+  -- the place whose event is at p shows what o says, an earlier event if any
+  record Shows (p : ℕ) (o : Option ℕ) : Type 0 where
+    earlier : (m : ℕ) → o ≡ some m → m < n
+    event : getD P p 0 ≡ eventOr o
+    its-strand : getD P (p + 4096) 0 ≡ strandOr ev o
+
+  -- what asking it answers, and that it may be asked
+  met-holds : (p : ℕ) (o : Option ℕ) → Shows p o → metIn L P p strand ≡ holds (parTo ev n) o
+  unfolding metIn
+  met-holds p none S = rw (S .event)
+  met-holds p (some m) S =
+      let l : m < n = S .earlier m refl in
+      let d : m ≢ 4294967295 = omega (arith, J .number-fits) in
+      rw (S .event, S .its-strand, ne-eqb m 4294967295 d, J .strand-is) (J .tells m l)
+
+  held-labelled : (p : ℕ) (o : Option ℕ) → Shows p o → getD P p 0 ≢ 4294967295 → 4096 + getD P (p + 4096) 0 < length L
+  held-labelled p none S d = absurd (d (S .event))
+  held-labelled p (some m) S d = rw (S .its-strand) (labelled m (S .earlier m refl))
+
+  may-be-asked : (p : ℕ) (o : Option ℕ) → Shows p o → p + 4096 < length P → Place P L p strand
+  may-be-asked p o S l = record {
+    inside = l;
+    label = rw (J .strand-is) (omega (arith, begun-some ev n, J .few, J .labels-room));
+    held-label = held-labelled p o S;
+  }
+
+  -- the two places of the record
+  shows-write : Shows r (lastWrite ev r n)
+  shows-write =
+      let i : r + 4096 ≡ 4096 + r = omega arith in
+      record {
+        earlier = λ m e. last-write-is ev r n m e .0;
+        event = J .shown .write r (J .on-record);
+        its-strand = rw i (J .shown .write-strand r (J .on-record));
+      }
+
+  shows-read : Shows (8192 + r) (standing ev r n)
+  shows-read =
+      let i : 8192 + r + 4096 ≡ 12288 + r = omega arith in
+      record {
+        earlier = λ m e. standing-read-is ev r n m e .0;
+        event = J .shown .read r (J .on-record);
+        its-strand = rw i (J .shown .read-strand r (J .on-record));
+      }
+
+  last-write-met : metIn L P r strand ≡ holds (parTo ev n) (lastWrite ev r n)
+  last-write-met = met-holds r (lastWrite ev r n) shows-write
+
+  standing-read-met : metIn L P (8192 + r) strand ≡ holds (parTo ev n) (standing ev r n)
+  standing-read-met = met-holds (8192 + r) (standing ev r n) shows-read
+
+  last-write-place : Place P L r strand
+  last-write-place = may-be-asked r (lastWrite ev r n) shows-write (omega arith)
+
+  standing-read-place : Place P L (8192 + r) strand
+  standing-read-place = may-be-asked (8192 + r) (standing ev r n) shows-read (omega arith)
+
+module _ (P L : List ℕ) (r at strand : ℕ) where
+  -- both places may be asked
+  pub last-write-askable : (e : Event) → Askable P L e r at strand → Place P L r strand
+  last-write-askable e A = last-write-place (A .judgeable)
+
+  pub standing-read-askable : (e : Event) → Askable P L e r at strand → Place P L (8192 + r) strand
+  standing-read-askable e A = standing-read-place (A .judgeable)
+
+  -- the last write is parallel: a race with it
+  pub last-write-found : (e : Event) → conflict write (accessOf e) ≡ true → recordOf e ≡ r → metIn L P r strand ≡ true
+      → Answers P L e r at strand P (First (getD P r 0))
+  last-write-found e clash same t ev n records P₀ J =
+      let h = holds-some (parTo ev n) (lastWrite ev r n) (sym (last-write-met J) ∙ t) in
+      let w : getD P r 0 ≡ h .0 = J .shown .write r (J .on-record) ∙ ap eventOr (h .1) in (
+        refl,
+        λ clean k l. rw w (last-write-races ev r n (h .0) clean (rw (J .event) clash) (rw (J .event) same) (h .1) (h .2) k l),
+      )
+
+  module _ (past : metIn L P r strand ≡ false) where
+    -- a write, and the standing read is parallel: a race with that
+    pub standing-read-found : metIn L P (8192 + r) strand ≡ true → Answers P L (Write r) r at strand P (First (getD P (8192 + r) 0))
+    standing-read-found t ev n records P₀ J =
+        let h = holds-some (parTo ev n) (standing ev r n) (sym (standing-read-met J) ∙ t) in
+        let s : getD P (8192 + r) 0 ≡ h .0 = J .shown .read r (J .on-record) ∙ ap eventOr (h .1) in (
+          refl,
+          λ clean k l.
+              rw s
+              (standing-read-races ev r n (h .0) clean (J .event) (sym (last-write-met J) ∙ past) (h .1) (h .2) k l),
+        )
+
+    -- a write, and neither is
+    pub write-taken : metIn L P (8192 + r) strand ≡ false → Answers P L (Write r) r at strand (put P r at strand) Nothing
+    write-taken f ev n records P₀ J = (
+      λ clean.
+          write-clean ev r n clean (J .event) (sym (last-write-met J) ∙ past)
+          (sym (standing-read-met J) ∙ f),
+      write-shown J,
+    )
+
+    -- a read is clean
+    read-passes : (ev : ℕ → Event) (n records : ℕ) (P₀ : List ℕ) → Judgeable ev n records P₀ P L (Read r) r at strand
+        → secondIn ev n ≡ none → secondIn ev (suc n) ≡ none
+    read-passes ev n records P₀ J clean =
+        read-clean ev r n clean (J .event) (sym (last-write-met J) ∙ past)
+
+    -- and comes to stand, unless the standing read is parallel
+    pub read-taken : metIn L P (8192 + r) strand ≡ false → Answers P L (Read r) r at strand (put P (8192 + r) at strand) Nothing
+    read-taken f ev n records P₀ J = (
+      read-passes ev n records P₀ J,
+      read-shown J (sym (standing-read-met J) ∙ f),
+    )
+
+    pub read-left : metIn L P (8192 + r) strand ≡ true → Answers P L (Read r) r at strand P Nothing
+    read-left t ev n records P₀ J = (
+      read-passes ev n records P₀ J,
+      read-kept J (sym (standing-read-met J) ∙ t),
+    )

@@ -1,0 +1,153 @@
+-- The places show the events before n (`Shown`): so they do before any event once they are emptied, and what an access that does not
+-- race puts there makes them show one event more. The four entries of each record are two rows (`Row`). Assumes nothing.
+use mathlib.Core.Path.{_≡_, refl, sym, _∙_}
+use mathlib.Core.Logic.{_≢_}
+use mathlib.Core.List.{List}
+use mathlib.Core.Bool.{Bool, true, false, false≢true}
+use mathlib.Core.Option.{Option, none, some}
+use Prim.Native.Nat.{ℕ, suc, _+_, _≤_, _<_}
+use native.Mathlib.Nat.{zero-add}
+use native.Mathlib.Omega.{arith}
+use lib.Dec.{eqb}
+use lib.ListN.{length, getD}
+use borrow.Author.Tests.{eqb-true, eqb-false}
+use Rattle.jobfile.specs.declared.coding.Event.{Event}
+use Rattle.jobfile.specs.declared.coding.Event.the-variants.{Read, Write}
+use Rattle.relation.specs.Strand.{strandAt}
+use Rattle.races.specs.Places.{holds, stood, parTo, lastWrite, standing}
+use Rattle.races.specs.Shown.{Shown, Judgeable}
+use Rattle.races.specs.Entries.{put}
+use Rattle.races.proofs.Places.{Kept, last-write-next, standing-next, elsewhere-keeps, write-takes, read-takes, no-write-yet, no-read-yet}
+use Rattle.races.proofs.Entries.{put-length, put-other, Row, row-put, row-apart, row-same}
+
+-- a read comes to stand just where nothing parallel to it stands
+stood-new : (test : ℕ → Bool) (n : ℕ) (o : Option ℕ) → holds test o ≡ false → stood test n o ≡ some n
+stood-new test n none f = refl
+stood-new test n (some s) f = rw f
+
+stood-old : (test : ℕ → Bool) (n : ℕ) (o : Option ℕ) → holds test o ≡ true → stood test n o ≡ o
+stood-old test n none t = absurd (false≢true t)
+stood-old test n (some s) t = rw t
+
+module _ (ev : ℕ → Event) where
+  -- entry i is no record's
+  abbrev Outside : ℕ → ℕ → Type 0
+  Outside records i = (r : ℕ) → r < records → (i ≢ r) × (i ≢ 4096 + r) × (i ≢ 8192 + r) × (i ≢ 12288 + r)
+
+  -- what the two rows hold just before event n
+  abbrev writesAt : ℕ → ℕ → Option ℕ
+  writesAt n q = lastWrite ev q n
+
+  abbrev readsAt : ℕ → ℕ → Option ℕ
+  readsAt n q = standing ev q n
+
+  module _ (n records : ℕ) (P₀ P : List ℕ) where
+    shown-writes : Shown ev n records P₀ P → Row ev 0 records (writesAt n) P
+    shown-writes S = record { event = λ q l. rw zero-add (S .write q l); strand = S .write-strand }
+
+    shown-reads : Shown ev n records P₀ P → Row ev 8192 records (readsAt n) P
+    shown-reads S = record { event = S .read; strand = S .read-strand }
+
+    rows-shown : Row ev 0 records (writesAt n) P → Row ev 8192 records (readsAt n) P
+        → ((i : ℕ) → Outside records i → getD P i 0 ≡ getD P₀ i 0) → length P ≡ length P₀ → Shown ev n records P₀ P
+    rows-shown writes reads others size = record {
+      write = λ r l. rw zero-add at (writes .event r l);
+      write-strand = writes .strand;
+      read = reads .event;
+      read-strand = reads .strand;
+      others = others;
+      size = size;
+    }
+
+  -- emptied places show that no event has happened: none emptied yet, and one record more
+  pub none-emptied : (P : List ℕ) → Shown ev 0 0 P P
+  none-emptied P = record {
+    write = λ r l. absurd (omega arith);
+    write-strand = λ r l. absurd (omega arith);
+    read = λ r l. absurd (omega arith);
+    read-strand = λ r l. absurd (omega arith);
+    others = λ i o. refl;
+    size = refl;
+  }
+
+  pub one-emptied : (k : ℕ) (P₀ P : List ℕ) → Shown ev 0 k P₀ P → k < 4096 → 16384 ≤ length P₀
+      → Shown ev 0 (k + 1) P₀ (put (put P k 4294967295 4294967295) (8192 + k) 4294967295 4294967295)
+  one-emptied k P₀ P S small room =
+      let Q = put P k 4294967295 4294967295 in
+      let writes : Row ev 0 (k + 1) (writesAt 0) Q =
+      rw zero-add at (row-put ev 0 k (writesAt 0) P (shown-writes 0 k P₀ P S) k (k + 1) (writesAt 0) none (no-write-yet ev k)
+      (λ q l d. (omega arith, refl)) small (omega arith) (omega (arith, S .size)))
+      in
+      let reads : Row ev 8192 k (readsAt 0) Q =
+      row-apart ev 8192 k (readsAt 0) P (shown-reads 0 k P₀ P S) k 4294967295 4294967295
+      (λ q l. (omega arith, omega arith, omega arith, omega arith))
+      in
+      rows-shown 0 (k + 1) P₀ (put Q (8192 + k) 4294967295 4294967295)
+      (row-apart ev 0 (k + 1) (writesAt 0) Q writes (8192 + k) 4294967295 4294967295
+      (λ q l. (omega arith, omega arith, omega arith, omega arith)))
+      (row-put ev 8192 k (readsAt 0) Q reads k (k + 1) (readsAt 0) none (no-read-yet ev k)
+      (λ q l d. (omega arith, refl)) small (omega arith) (omega (arith, S .size, put-length P k 4294967295 4294967295)))
+      (λ i o.
+      let d = o k (omega arith) in
+      put-other Q (8192 + k) 4294967295 4294967295 i (omega arith) (omega arith) ∙ put-other P k 4294967295 4294967295 i (omega arith) (omega arith)
+      ∙ S .others i (λ r l. o r (omega arith)))
+      (put-length Q (8192 + k) 4294967295 4294967295 ∙ put-length P k 4294967295 4294967295 ∙ S .size)
+
+  -- one place is put: the entries of no record stay, and so does the length
+  put-shown : (n records : ℕ) (P₀ P : List ℕ) (p event strand : ℕ) → Shown ev n records P₀ P
+      → ((i : ℕ) → Outside records i → (i ≢ p) × (i ≢ p + 4096))
+      → Row ev 0 records (writesAt (suc n)) (put P p event strand) → Row ev 8192 records (readsAt (suc n)) (put P p event strand)
+      → Shown ev (suc n) records P₀ (put P p event strand)
+  put-shown n records P₀ P p event strand S inside writes reads =
+      rows-shown (suc n) records P₀ (put P p event strand) writes reads
+      (λ i o. put-other P p event strand i (inside i o .0) (inside i o .1) ∙ S .others i o) (put-length P p event strand ∙ S .size)
+
+-- An access that may be judged, and does not race: what it makes of the places.
+module _ {ev : ℕ → Event} {n records : ℕ} {P₀ P L : List ℕ} {r at strand : ℕ} where
+  -- a write becomes the last one
+  pub write-shown : Judgeable ev n records P₀ P L (Write r) r at strand → Shown ev (suc n) records P₀ (put P r at strand)
+  write-shown J =
+      let writes = shown-writes ev n records P₀ P (J .shown) in
+      let reads =
+          row-apart ev 8192 records (readsAt ev n) P (shown-reads ev n records P₀ P (J .shown)) r n (strandAt ev n)
+          (λ q l. (omega arith, omega arith, omega arith, omega arith))
+      in
+      rw (J .number, J .strand-is)
+      (put-shown ev n records P₀ P r n (strandAt ev n) (J .shown) (λ i o. let d = o r (J .on-record) in (d .0, omega arith))
+      (rw zero-add at (row-put ev 0 records (writesAt ev n) P writes r records (writesAt ev (suc n)) (some n)
+      (write-takes ev r n (J .event) .0) (λ q l d. (l, elsewhere-keeps ev q n (λ e. d (sym (rw (J .event) at e))) .same-write))
+      (omega arith) (J .records-fit) (omega arith)))
+      (row-same ev 8192 records (readsAt ev n) (put P r n (strandAt ev n)) reads (readsAt ev (suc n)) (λ q. standing-next ev q n ∙ rw (J .event))))
+
+  module _ (J : Judgeable ev n records P₀ P L (Read r) r at strand) where
+    same-writes : (q : ℕ) → lastWrite ev q (suc n) ≡ lastWrite ev q n
+    same-writes q = last-write-next ev q n ∙ rw (J .event)
+
+    -- a read comes to stand where nothing parallel to it does
+    pub read-shown : holds (parTo ev n) (standing ev r n) ≡ false → Shown ev (suc n) records P₀ (put P (8192 + r) at strand)
+    read-shown f =
+        let reads = shown-reads ev n records P₀ P (J .shown) in
+        let writes =
+            row-apart ev 0 records (writesAt ev n) P (shown-writes ev n records P₀ P (J .shown)) (8192 + r) n (strandAt ev n)
+            (λ q l. (omega arith, omega arith, omega arith, omega arith))
+        in
+        rw (J .number, J .strand-is)
+        (put-shown ev n records P₀ P (8192 + r) n (strandAt ev n) (J .shown) (λ i o. let d = o r (J .on-record) in (d .2, omega arith))
+        (row-same ev 0 records (writesAt ev n) (put P (8192 + r) n (strandAt ev n)) writes (writesAt ev (suc n)) same-writes)
+        (row-put ev 8192 records (readsAt ev n) P reads r records (readsAt ev (suc n)) (some n)
+        (read-takes ev r n (J .event) .1 ∙ stood-new (parTo ev n) n (standing ev r n) f)
+        (λ q l d. (l, elsewhere-keeps ev q n (λ e. d (sym (rw (J .event) at e))) .same-read)) (omega arith) (J .records-fit) (omega arith)))
+
+    -- and changes nothing where the standing read is parallel to it
+    pub read-kept : holds (parTo ev n) (standing ev r n) ≡ true → Shown ev (suc n) records P₀ P
+    read-kept t =
+        rows-shown ev (suc n) records P₀ P
+        (row-same ev 0 records (writesAt ev n) P (shown-writes ev n records P₀ P (J .shown)) (writesAt ev (suc n)) same-writes)
+        (row-same ev 8192 records (readsAt ev n) P (shown-reads ev n records P₀ P (J .shown)) (readsAt ev (suc n)) (λ q. same q (eqb r q) refl))
+        (J .shown .others) (J .shown .size)
+      where
+        same : (q : ℕ) (c : Bool) → eqb r q ≡ c → standing ev q (suc n) ≡ standing ev q n
+        same q true e =
+            let i : r ≡ q = eqb-true r q e in
+            rw i at (read-takes ev r n (J .event) .1 ∙ stood-old (parTo ev n) n (standing ev r n) t)
+        same q false e = elsewhere-keeps ev q n (rw (J .event) (eqb-false r q e)) .same-read
