@@ -1,4 +1,5 @@
 pub mod Digits
 pub mod Puts
 pub mod Delivered
+pub mod Parts
 pub mod Lines
