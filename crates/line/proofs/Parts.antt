@@ -2,10 +2,10 @@
 -- Assumes nothing.
 use Prim.Native.Nat.{ℕ, _+_, _*_, _/_, _≤_, _<_}
 use native.Mathlib.Omega.{arith}
-use mathlib.Core.Path.{_≡_, refl}
+use mathlib.Core.Path.{_≡_, refl, _∙_}
 use mathlib.Core.Bool.{Bool, true, false, cond}
 use mathlib.Core.List.{List}
-use lib.ListN.{length, take, drop, length-drop}
+use lib.ListN.{length, take, drop, length-drop, length-take}
 use lib.Dec.{eqb}
 use lib.Seq.{length-take-le}
 use Rattle.jobfile.specs.Refusals.{refusalOf}
@@ -17,8 +17,9 @@ use Rattle.jobfile.proofs.Whole.{accepted-fits, accepted}
 use Rattle.races.specs.Verdict.{Verdict, clean, race, verdict}
 use Rattle.races.proofs.Named.{verdict-race}
 use Rattle.judging.specs.Answers.{answerWith, judgedOf, judgeFault, afterCheck, judgeOf}
+use Rattle.judging.specs.declared.Answer.{Answer}
 use Rattle.judging.specs.declared.Answer.the-variants.{Refused}
-use Rattle.line.specs.Text.{answerOf, PairWithin}
+use Rattle.line.specs.Text.{answerText, answerOf, lineOf, PairWithin}
 
 module _ (file : List ℕ) where
   -- four bytes for each event
@@ -55,3 +56,27 @@ module _ (file : List ℕ) where
           by : (t : Bool) → PairWithin (cond t (judgedOf (eventAt (eventsFrom file (j .start) (j .events))) (j .events)) (Refused (refusalOf (judgeFault (j .events) (j .strands) (j .events) labels links places) 0))) (4 * j .events)
           by true = named (verdict (eventAt (eventsFrom file (j .start) (j .events))) (j .events)) _ _ _ refl
           by false = tt
+
+-- what is known of the answer a for the event part that the reader gives
+pub record Answered (input : List ℕ) (labels links places : ℕ) (a : Answer) (part : List ℕ) : Type 0 where
+  pub all : length part / 4 ≡ eventCount (checkOf input)
+  pub answer : a ≡ answerOf input labels links places
+  pub pair : PairWithin a (length part)
+  pub line : (name : List ℕ) → name ≡ take (nameLength (checkOf input)) input → answerText a part name ≡ lineOf input labels links places
+
+pub answered : (input : List ℕ) (labels links places : ℕ) (a : Answer) (part : List ℕ) → part ≡ eventPart input
+    → a ≡ judgeOf input (length part / 4) labels links places → Answered input labels links places a part
+unfolding lineOf
+answered input labels links places a part events judged =
+    let all : length part / 4 ≡ eventCount (checkOf input) = rw events (omega (arith, events-size input)) in
+    let answer : a ≡ answerOf input labels links places = judged ∙ rw all in
+    record {
+      all = all;
+      answer = answer;
+      pair = rw (answer, events, events-size input) (pair-within input labels links places);
+      line = λ name e. rw (answer, events, e);
+    }
+
+-- the name is at most 64 bytes
+pub name-size : (input name : List ℕ) → name ≡ take (nameLength (checkOf input)) input → length name ≤ 64
+name-size input name e = rw (e, length-take) (omega (arith, name-short input))

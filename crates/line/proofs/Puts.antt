@@ -1,6 +1,7 @@
 -- Bytes put one after another are put as one. Assumes nothing.
 use Prim.Native.Nat.{ℕ, _+_, _≤_, _<_}
 use native.Mathlib.Omega.{arith}
+use native.Mathlib.Nat.{zero-add}
 use native.Mathlib.Numerals.{add-one}
 use mathlib.Core.Path.{_≡_, refl, sym, _∙_}
 use mathlib.Core.List.{List, _++_, append-assoc}
@@ -36,3 +37,7 @@ put-put {a} {b} {c} {x} {y} {at} {m} {n} p q =
 -- the whole buffer
 pub put-whole : {a b x : List ℕ} {at n : ℕ} → Put a at x n b → b ≡ take at a ++ x ++ drop (at + length x) a
 put-whole {a} {b} {x} {at} {n} p = sym (take-append-drop n b) ∙ rw (p .front, p .rest, p .count)
+
+-- how many bytes stand from the start on
+pub put-counted : {a b x : List ℕ} {n : ℕ} → Put a 0 x n b → n ≡ length (take n b)
+put-counted p = p .count ∙ rw (p .front, zero-add)

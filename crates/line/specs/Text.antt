@@ -1,5 +1,5 @@
 -- The one line that the program prints, byte by byte, as a function of the input's bytes.
-use Prim.Native.Nat.{ℕ, zero, suc, _+_, _*_, _/_, _%_, _≤_}
+use Prim.Native.Nat.{ℕ, zero, suc, _+_, _*_, _/_, _%_, _≤_, _<_}
 use Prim.Native.String.{String, [] as empty, _∷_ as _then_}
 use Prim.Native.Char.{code}
 use mathlib.Core.Path.{_≡_}
@@ -7,6 +7,7 @@ use mathlib.Core.Bool.{cond}
 use mathlib.Core.List.{List, [], _∷_, _++_}
 use lib.Dec.{ltb}
 use lib.ListN.{length, take, drop}
+use Rattle.io.specs.Counts.{Counts}
 use Rattle.jobfile.specs.File.{checkOf, nameLength, eventCount, eventPart}
 use Rattle.jobfile.specs.Trace.{eventAt}
 use Rattle.jobfile.specs.declared.coding.Event.{Event}
@@ -90,6 +91,11 @@ linedOf line room = cond (ltb room (length line)) Short (Bytes (length line))
 -- what is in the output then: the line and what was there behind it, or all as it was
 unfoldable pub outOf : List ℕ → List ℕ → List ℕ
 outOf line out = cond (ltb (length out) (length line)) out (line ++ drop (length line) out)
+
+-- the bounds that a caller needs, of the output afterwards: so many bytes of it are the line, and 256 bytes are always enough
+abbrev pub LineFits : Lined → List ℕ → Type 0
+LineFits (Bytes n) out = Counts n out
+LineFits Short out = length out < 256
 
 -- the pair of an answer that names one is within so many bytes of events
 abbrev pub PairWithin : Answer → ℕ → Type 0

@@ -6,8 +6,11 @@ mod answers;
 mod text;
 
 ghost use mathlib.Core.Path.{_≡_};
+ghost use Prim.Native.Nat.{_≤_};
 ghost use lib.ListN.{length};
-ghost use Rattle.line.specs.Text.{linedOf, outOf};
+ghost use Rattle.jobfile.specs.File.{checkOf, eventCount};
+ghost use Rattle.judging.specs.Buffers.{Leaves};
+ghost use Rattle.line.specs.Text.{answerOf, lineOf, linedOf, outOf, LineFits};
 use text::put;
 
 // How many bytes the line has; or that the output is shorter than it.
@@ -16,10 +19,34 @@ pub enum Lined {
     Short,
 }
 
+// The line for all events of the input, at the start of `out`; what is behind it stays, and an output
+// that is too short stays whole. The work buffers are left as judging leaves them.
+pub fn line(
+    input: &[u8],
+    labels: &mut [u64],
+    links: &mut [u16],
+    places: &mut [u32],
+    out: &mut [u8],
+) -> Lined
+    ensures { λ r. ⌜ r ≡ linedOf (lineOf (now (input .entry)) (length (now (labels .entry))) (length (now (links .entry))) (length (now (places .entry)))) (length (now (out .entry))) ⌝ }
+    ensures { λ _. ⌜ now (out .exit) ≡ outOf (lineOf (now (input .entry)) (length (now (labels .entry))) (length (now (links .entry))) (length (now (places .entry)))) (now (out .entry)) ⌝ }
+    ensures { λ _. ⌜ Leaves (answerOf (now (input .entry)) (length (now (labels .entry))) (length (now (links .entry))) (length (now (places .entry)))) (now (input .entry)) (eventCount (checkOf (now (input .entry)))) (now (labels .entry)) (now (links .entry)) (now (places .entry)) (now (labels .exit)) (now (links .exit)) (now (places .exit)) ⌝ }
+    ensures { λ r. ⌜ LineFits r (now (out .exit)) ⌝ }
+{
+    let events = jobfile::events(input);
+    let answer = judging::judge(input, events.len() / 4, labels, links, places);
+    let mut text = [0u8; 256];
+    let n = answers::answer(&mut text, answer, events, jobfile::name(input));
+    deliver(&text[..n], out)
+}
+
 // The bytes at the start of the output, or nothing where they do not fit.
+// requires: they are a line's at most.
 fn deliver(text: &[u8], out: &mut [u8]) -> Lined
+    requires { ⌜ length (now text) ≤ 256 ⌝ }
     ensures { λ r. ⌜ r ≡ linedOf (now (text .entry)) (length (now (out .entry))) ⌝ }
     ensures { λ _. ⌜ now (out .exit) ≡ outOf (now (text .entry)) (now (out .entry)) ⌝ }
+    ensures { λ r. ⌜ LineFits r (now (out .exit)) ⌝ }
 {
     if out.len() < text.len() {
         return Lined::Short;

@@ -9,7 +9,7 @@ use Rattle.line.proofs.text.put.Reads as put-reads
 
 -- src/lib.rt:25:9
 returns : tie.Need-returns
-returns c = too-short (c .before .before .before .args .text .now) (c .before .before .before .args .out .now) (omega arith)
+returns c = too-short (c .before .before .before .args .text .now) (c .before .before .before .args .out .now) (omega arith) (omega arith)
 
 -- src/lib.rt:27:18
 put-requires : tie.Need-put-requires
@@ -23,7 +23,7 @@ same-length c = search needs
 returns-2 : tie.Need-returns-2
 returns-2 c =
     let start = c .before .before .before .before .before .before .before in
-    delivered (start .args .text .now) (start .args .out .now) (c .before .before .put .last .0) (c .before .before .put .result) (omega arith) (c .before .before .put .ensures)
+    delivered (start .args .text .now) (start .args .out .now) (c .before .before .put .last .0) (c .before .before .put .result) (omega arith) (omega arith) (c .before .before .put .ensures)
 
 pub deliver-spec : {M : Type 1} → statement M
 deliver-spec = tie.close (tie.spec returns put-requires same-length returns-2)
