@@ -11,13 +11,15 @@ use Rattle.jobfile.specs.declared.coding.Event.{Event}
 use Rattle.jobfile.specs.declared.coding.Event.the-variants.{Read, Write}
 use Rattle.relation.specs.Parallel.{Rooted}
 use Rattle.relation.specs.Strand.{strandAt}
-use Rattle.strands.specs.Standing.{Standing, Takes}
+use Rattle.relation.proofs.Strand.{begun-some}
+use Rattle.strands.specs.Standing.{Standing, Takes, Ready, Advanced}
 use Rattle.strands.specs.States.{englishCount, hebrewCount}
 use Rattle.strands.specs.declared.Now.{Now}
 use Rattle.strands.proofs.States.{tells}
 use Rattle.races.specs.Race.{other, accessOf, recordOf, secondIn}
 use Rattle.races.specs.Verdict.{Verdict, clean, race, verdict, stopAt}
-use Rattle.races.specs.Shown.{Shown, Judgeable, Judged, eventOr, strandOr}
+use Rattle.races.specs.Shown.{Shown, Judgeable, Judged, Askable, Answers, eventOr, strandOr}
+use Rattle.races.specs.declared.Met.{Met}
 use Rattle.races.specs.declared.Met.the-variants.{First, Nothing}
 use Rattle.races.proofs.Found.{none-yet}
 use Rattle.races.proofs.Places.{other-keeps}
@@ -26,22 +28,24 @@ use Rattle.judging.specs.declared.Answer.the-variants.{Clean, Race}
 use Rattle.judging.specs.declared.Turn.the-variants.{Go, Raced}
 use Rattle.judging.specs.Answers.{answerWith, judgedOf}
 use Rattle.judging.specs.Buffers.{Shows}
-use Rattle.judging.specs.Turns.{Run, Midway, Turned, Meeting}
+use Rattle.judging.specs.Turns.{Run, Midway, Turnable, Turned, Turns, Meeting, Meetable, Meets}
 
 -- an event that is no access meets nothing and changes no place
 module _ (ev : ℕ → Event) (n records : ℕ) (P₀ P L : List ℕ) (e : Event) (at strand : ℕ) (M : Meeting ev n records P₀ P L e at strand) where
   pub meets-nothing : accessOf e ≡ other → Judged ev n records P₀ P P (recordOf e) Nothing
   meets-nothing a =
       let z : accessOf (ev n) ≡ other = ap accessOf (M .event) ∙ a in
-      let S = M .shown in
-      (λ quiet. other-clean ev n quiet z, record {
-        write = λ r h. S .write r h ∙ ap eventOr (sym (other-keeps ev r n z .same-write));
-        write-strand = λ r h. S .write-strand r h ∙ ap (strandOr ev) (sym (other-keeps ev r n z .same-write));
-        read = λ r h. S .read r h ∙ ap eventOr (sym (other-keeps ev r n z .same-read));
-        read-strand = λ r h. S .read-strand r h ∙ ap (strandOr ev) (sym (other-keeps ev r n z .same-read));
-        others = S .others;
-        size = S .size;
-      })
+      let S = M .shown in (
+        λ quiet. other-clean ev n quiet z,
+        record {
+          write = λ r h. S .write r h ∙ ap eventOr (sym (other-keeps ev r n z .same-write));
+          write-strand = λ r h. S .write-strand r h ∙ ap (strandOr ev) (sym (other-keeps ev r n z .same-write));
+          read = λ r h. S .read r h ∙ ap eventOr (sym (other-keeps ev r n z .same-read));
+          read-strand = λ r h. S .read-strand r h ∙ ap (strandOr ev) (sym (other-keeps ev r n z .same-read));
+          others = S .others;
+          size = S .size;
+        },
+      )
 
   -- an access may be judged
   pub access-judgeable : (r : ℕ) → r < records → Judgeable ev n records P₀ P L e r at strand
@@ -58,6 +62,24 @@ module _ (ev : ℕ → Event) (n records : ℕ) (P₀ P L : List ℕ) (e : Event
     places-room = M .places-room;
     labels-room = M .labels-room;
   }
+
+-- an access a to record r: what judging it asks, and what it gives
+module _ (P L : List ℕ) (e a : Event) (r at strand : ℕ) (same : e ≡ a) (below : (records : ℕ) → RecordBelow records a → r < records) where
+  same-judgeable : (ev : ℕ → Event) (n records : ℕ) (P₀ : List ℕ) → Meeting ev n records P₀ P L e at strand → Judgeable ev n records P₀ P L a r at strand
+  same-judgeable ev n records P₀ M =
+      let M′ : Meeting ev n records P₀ P L a at strand = rw same at M in
+      access-judgeable ev n records P₀ P L a at strand M′ r (below records (M′ .record-below))
+
+  pub meets-askable : Meetable P L e at strand → Askable P L a r at strand
+  meets-askable M =
+      record { ev = M .ev; n = M .n; records = M .records; P₀ = M .P₀; judgeable = same-judgeable (M .ev) (M .n) (M .records) (M .P₀) (M .meeting) }
+
+  pub answers-meet : recordOf a ≡ r → (P′ : List ℕ) (met : Met) → Answers P L a r at strand P′ met → Meets P L e at strand P′ met
+  answers-meet on P′ met A ev n records P₀ M = rw (same, on) (A ev n records P₀ (same-judgeable ev n records P₀ M))
+
+-- any other event
+pub nothing-meets : (P L : List ℕ) (e : Event) (at strand : ℕ) → accessOf e ≡ other → Meets P L e at strand P Nothing
+nothing-meets P L e at strand a ev n records P₀ M = meets-nothing ev n records P₀ P L e at strand M a
 
 module _ (part : List ℕ) (records k : ℕ) (R : Run part records k) where
   pub run-rooted : (n : ℕ) → n ≤ k → Rooted (eventAt part) n
@@ -140,3 +162,42 @@ pub starts : (part : List ℕ) (records : ℕ) (L₀ K₀ P₀ L K P lasts joins
     → Shown (eventAt part) 0 records P₀ P → 16384 ≤ length P₀ → Midway part records L₀ K₀ P₀ L K P lasts joins now 0
 starts part records L₀ K₀ P₀ L K P lasts joins now S shown h =
     record { stands = S; shown = shown; places-room = omega (arith, shown .size); quiet = none-yet (eventAt part) }
+
+-- one event, e, from a state in which it is next
+module _ (part : List ℕ) (i : ℕ) (L K P lasts joins : List ℕ) (now : Now) where
+  pub some-strands : Turnable part i L K P lasts joins now → 1 ≤ now .strands
+  some-strands T = omega (arith, T .midway .stands .strands, begun-some (eventAt part) i)
+
+  module _ (e : Event) (same : e ≡ eventAt part i) where
+    pub turn-meets : Turnable part i L K P lasts joins now → Meetable P L e i (now .strands - 1)
+    turn-meets T = record {
+      ev = eventAt part;
+      n = i;
+      records = T .records;
+      P₀ = T .P₀;
+      meeting = meeting part (T .records) (T .k) (T .run) (T .L₀) (T .K₀) (T .P₀) L K P lasts joins now i (T .midway) e same (T .next);
+    }
+
+    pub turn-ready : Turnable part i L K P lasts joins now → Ready L K lasts joins now e
+    turn-ready T = record {
+      ev = eventAt part;
+      n = i;
+      L₀ = T .L₀;
+      K₀ = T .K₀;
+      stands = T .midway .stands;
+      takes = taken part (T .records) (T .k) (T .run) (T .L₀) (T .K₀) (T .P₀) L K P lasts joins now i (T .midway) e same (T .next);
+    }
+
+    pub turns-race : (P′ : List ℕ) (first r : ℕ) → r ≡ recordOf e → Meets P L e i (now .strands - 1) P′ (First first)
+        → Turns part i L K P lasts joins now L K P′ lasts joins (Raced first r)
+    turns-race P′ first r on meets records k L₀ K₀ P₀ R h M =
+        turn-race part records k R L₀ K₀ P₀ L K P lasts joins now i M P′ first r
+        (rw on (meets (eventAt part) i records P₀ (meeting part records k R L₀ K₀ P₀ L K P lasts joins now i M e same h)))
+
+    pub turns-go : (P′ L′ K′ lasts′ joins′ : List ℕ) (next : Now) → Meets P L e i (now .strands - 1) P′ Nothing
+        → Advanced L K lasts joins now e L′ K′ lasts′ joins′ next
+        → Turns part i L K P lasts joins now L′ K′ P′ lasts′ joins′ (Go next)
+    turns-go P′ L′ K′ lasts′ joins′ next meets advanced records k L₀ K₀ P₀ R h M =
+        turn-on part records k R L₀ K₀ P₀ L K P lasts joins now i M P′ (recordOf e) L′ K′ lasts′ joins′ next
+        (meets (eventAt part) i records P₀ (meeting part records k R L₀ K₀ P₀ L K P lasts joins now i M e same h))
+        (advanced (eventAt part) i L₀ K₀ (M .stands) (taken part records k R L₀ K₀ P₀ L K P lasts joins now i M e same h))

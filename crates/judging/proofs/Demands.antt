@@ -18,7 +18,7 @@ use Rattle.jobfile.proofs.Whole.{accepted-part}
 use Rattle.relation.specs.Parallel.{Rooted}
 use Rattle.relation.specs.Strand.{strandAt}
 use Rattle.orders.specs.Lists.{All, Pairs}
-use Rattle.orders.specs.Order.{Order, labelIn, spaced, differ}
+use Rattle.orders.specs.Order.{Order, labelIn, differ}
 use Rattle.orders.specs.Model.{State, Holds, insertState, insertCount, diffs, lastOf}
 use Rattle.orders.proofs.Entries.{forwards, forwards-end, backwards, backwards-end}
 use Rattle.orders.proofs.Labels.{labels-rise}
@@ -36,14 +36,10 @@ use Rattle.races.specs.Verdict.{Verdict, clean, race, verdictOf, verdict, stopA
 use Rattle.races.proofs.Named.{verdict-race, verdict-clean, named-only}
 use Rattle.judging.specs.declared.Answer.{Answer}
 use Rattle.judging.specs.declared.Answer.the-variants.{Clean, Race, Refused}
-use Rattle.judging.specs.Answers.{answerWith, judgedOf, judgeFault, noRoom, judgeOf}
+use Rattle.judging.specs.Answers.{answerWith, judgedOf, judgeFault, judgeOf}
 use Rattle.judging.specs.Buffers.{Shows}
+use Rattle.judging.proofs.Room.{room}
 use Rattle.judging.specs.Demands.{eventsIn, Judgeable, Demand2, OneChain, Demand3, TrueCount}
-
--- with at most 4,096 strands a respacing has room
-pub room : (strands : ℕ) → strands ≤ 4096 → noRoom strands ≡ false
-unfolding noRoom
-room strands h = le-ltb (2 ^ 64 - 1) (spaced (strands - 1)) (omega arith)
 
 -- the verdict behind an answer
 verdict-of-race : (v : Verdict) (a b c i j r n e h : ℕ) → answerWith v a b c ≡ Race i j r n e h → v ≡ race i j r
@@ -114,8 +110,8 @@ module _ (file : List ℕ) (k labels links places : ℕ) (T : Judgeable file k l
 one-chain : (L K : List ℕ) (lo ln n : ℕ) (st : State) (ord : List ℕ) → Holds L K lo ln st → length (st .lab) ≡ n → st .ord ≡ ord → OneChain n ord L K lo ln
 one-chain L K lo ln n st ord H size same =
     let rises : Pairs (λ a b. labelIn L lo a < labelIn L lo b) (st .ord) =
-        pairs-map (λ s. s < length (st .lab)) (λ a b. getD (st .lab) a 0 < getD (st .lab) b 0) (λ a b. labelIn L lo a < labelIn L lo b)
-        (λ a b x y l. rw (H .labels a x, H .labels b y) l) (st .ord) (H .good .order .below) (labels-rise st (H .good)) in
+    pairs-map (λ s. s < length (st .lab)) (λ a b. getD (st .lab) a 0 < getD (st .lab) b 0) (λ a b. labelIn L lo a < labelIn L lo b)
+    (λ a b x y l. rw (H .labels a x, H .labels b y) l) (st .ord) (H .good .order .below) (labels-rise st (H .good)) in
     rw (← same, ← size) (record {
       each-once = H .good .order;
       forwards = forwards L K lo ln st H;

@@ -93,8 +93,8 @@ module _ (ev : ℕ → Event) (n records : ℕ) (root : Rooted ev n) (L₀ K₀ 
       (same-labels 0 0 (englishState ev n) (english-size ev n root) (S .english) (S′ .english))
       (same-labels 4096 8192 (hebrewState ev n) (hebrew-size ev n root) (S .hebrew) (S′ .hebrew))
       (λ i f.
-        let g : (s : ℕ) → s < begunAt ev n → (i ≢ s) × (i ≢ 4096 + s) = λ s h. (zero-less i s (f s h .0), f s h .1) in
-        (S .untouched .labels i g, S′ .untouched .labels i g))
+      let g : (s : ℕ) → s < begunAt ev n → (i ≢ s) × (i ≢ 4096 + s) = λ s h. (zero-less i s (f s h .0), f s h .1) in
+      (S .untouched .labels i g, S′ .untouched .labels i g))
 
   links-once : K ≡ K′
   links-once =
@@ -104,9 +104,9 @@ module _ (ev : ℕ → Event) (n records : ℕ) (root : Rooted ev n) (L₀ K₀ 
       (same-nexts 4096 8192 (hebrewState ev n) (hebrew-size ev n root) (S .hebrew) (S′ .hebrew))
       (same-backs 4096 8192 (hebrewState ev n) (hebrew-size ev n root) (S .hebrew) (S′ .hebrew))
       (λ i f.
-        let g : (s : ℕ) → s < begunAt ev n → (i ≢ s) × (i ≢ 4096 + s) × (i ≢ 8192 + s) × (i ≢ 12288 + s) =
-            λ s h. (zero-less i s (f s h .0), f s h .1, f s h .2, f s h .3) in
-        (S .untouched .links i g, S′ .untouched .links i g))
+      let g : (s : ℕ) → s < begunAt ev n → (i ≢ s) × (i ≢ 4096 + s) × (i ≢ 8192 + s) × (i ≢ 12288 + s) =
+      λ s h. (zero-less i s (f s h .0), f s h .1, f s h .2, f s h .3) in
+      (S .untouched .links i g, S′ .untouched .links i g))
 
   places-once : P ≡ P′
   places-once =
@@ -116,9 +116,9 @@ module _ (ev : ℕ → Event) (n records : ℕ) (root : Rooted ev n) (L₀ K₀ 
       (λ r h. S .places .read r h ∙ sym (S′ .places .read r h))
       (λ r h. S .places .read-strand r h ∙ sym (S′ .places .read-strand r h))
       (λ i f.
-        let g : (s : ℕ) → s < records → (i ≢ s) × (i ≢ 4096 + s) × (i ≢ 8192 + s) × (i ≢ 12288 + s) =
-            λ s h. (zero-less i s (f s h .0), f s h .1, f s h .2, f s h .3) in
-        (S .places .others i g, S′ .places .others i g))
+      let g : (s : ℕ) → s < records → (i ≢ s) × (i ≢ 4096 + s) × (i ≢ 8192 + s) × (i ≢ 12288 + s) =
+      λ s h. (zero-less i s (f s h .0), f s h .1, f s h .2, f s h .3) in
+      (S .places .others i g, S′ .places .others i g))
 
 -- an answer that is no refusal
 abbrev Given : Answer → Type 0
@@ -176,10 +176,11 @@ judged-once file k L₀ K₀ P₀ r r′ L K P L′ K′ P′ F F′ =
     shown g S S′ =
         let root = given-rooted file k (length L₀) (length K₀) (length P₀) g in
         let n = stopAt (eventAt (eventPart file)) k in
-        let rs = recordCount (checkOf file) in
-        (labels-once (eventAt (eventPart file)) n rs root L₀ K₀ P₀ L K P L′ K′ P′ S S′,
-        links-once (eventAt (eventPart file)) n rs root L₀ K₀ P₀ L K P L′ K′ P′ S S′,
-        places-once (eventAt (eventPart file)) n rs root L₀ K₀ P₀ L K P L′ K′ P′ S S′)
+        let rs = recordCount (checkOf file) in (
+          labels-once (eventAt (eventPart file)) n rs root L₀ K₀ P₀ L K P L′ K′ P′ S S′,
+          links-once (eventAt (eventPart file)) n rs root L₀ K₀ P₀ L K P L′ K′ P′ S S′,
+          places-once (eventAt (eventPart file)) n rs root L₀ K₀ P₀ L K P L′ K′ P′ S S′,
+        )
 
     by : (a : Answer) → a ≡ judgeOf file k (length L₀) (length K₀) (length P₀) → Leaves a file k L₀ K₀ P₀ L K P → Leaves a file k L₀ K₀ P₀ L′ K′ P′
         → (L ≡ L′) × (K ≡ K′) × (P ≡ P′)

@@ -1,7 +1,20 @@
 // Judging: the race that the rules name, and both orders kept as the events come.
 //
 // Every byte string, every k and buffers of any length are dealt with. A refusal stores nothing.
+ghost use mathlib.Core.Path.{_≡_};
+ghost use lib.ListN.{length};
+ghost use Rattle.judging.specs.Answers.{judgeOf, judgeFault, judgedOf};
+ghost use Rattle.judging.specs.Buffers.{Leaves, Shows};
+ghost use Rattle.judging.specs.Turns.{Run, Turnable, Turns, Meetable, Meets};
+ghost use Rattle.jobfile.specs.Trace.{eventAt};
+ghost use Rattle.races.specs.Verdict.{stopAt};
+ghost use Rattle.races.specs.Race.{recordOf};
+ghost use Prim.Native.Nat.{_≤_};
+use jobfile::Checked;
+use jobfile::Event;
+use jobfile::Job;
 use jobfile::Refusal;
+use races::Met;
 use strands::Now;
 
 // Clean or race, with the strands begun and both label counts; or a refusal.
@@ -28,3 +41,156 @@ pub enum Turn {
     Raced { first: usize, record: usize },
 }
 
+// Judges the first k events of a file, or fewer if a race is met.
+pub fn judge(
+    file: &[u8],
+    k: usize,
+    labels: &mut [u64],
+    links: &mut [u16],
+    places: &mut [u32],
+) -> Answer
+    ensures { λ r. ⌜ r ≡ judgeOf (now (file .entry)) k (length (now (labels .entry))) (length (now (links .entry))) (length (now (places .entry))) ⌝ }
+    ensures { λ r. ⌜ Leaves r (now (file .entry)) k (now (labels .entry)) (now (links .entry)) (now (places .entry)) (now (labels .exit)) (now (links .exit)) (now (places .exit)) ⌝ }
+{
+    match jobfile::check(file) {
+        Checked::Refused(r) => Answer::Refused(r),
+        Checked::Accepted(j) => {
+            let fault = judge_fault(j, k, labels.len(), links.len(), places.len());
+            if fault != 0 {
+                return Answer::Refused(jobfile::refuse(fault, 0));
+            }
+            let start = j.start;
+            let end = start + 4 * j.events;
+            run(&file[start..end], k, j.records, labels, links, places)
+        }
+    }
+}
+
+// The first of refusals 15, 14 and 17 that is given, or 0. A respacing of 4,096 strands ends
+// below 2^64, and one of more does not.
+fn judge_fault(j: Job, k: usize, labels: usize, links: usize, places: usize) -> u32
+    ensures { λ r. ⌜ r ≡ judgeFault (j .events) (j .strands) k labels links places ⌝ }
+    ensures { λ r. ⌜ (r ≡ 0 → (k ≤ j .events) × (8192 ≤ labels) × (16384 ≤ links) × (16384 ≤ places)) ⌝ }
+    ensures { λ r. ⌜ r ≤ 17 ⌝ }
+{
+    if k > j.events {
+        return 15;
+    }
+    if labels < 8192 {
+        return 14;
+    }
+    if links < 16384 {
+        return 14;
+    }
+    if places < 16384 {
+        return 14;
+    }
+    if j.strands > 4096 {
+        return 17;
+    }
+    0
+}
+
+// Judges the first k of the events of an accepted file, with buffers that are long enough.
+fn run(
+    part: &[u8],
+    k: usize,
+    records: usize,
+    labels: &mut [u64],
+    links: &mut [u16],
+    places: &mut [u32],
+) -> Answer
+    requires { ⌜ Run (now part) records k ⌝ }
+    requires { ⌜ (8192 ≤ length (now labels)) × (16384 ≤ length (now links)) × (16384 ≤ length (now places)) ⌝ }
+    ensures { λ r. ⌜ r ≡ judgedOf (eventAt (now (part .entry))) k ⌝ }
+    ensures { λ _. ⌜ Shows (eventAt (now (part .entry))) (stopAt (eventAt (now (part .entry))) k) records (now (labels .entry)) (now (links .entry)) (now (places .entry)) (now (labels .exit)) (now (links .exit)) (now (places .exit)) ⌝ }
+{
+    races::clear(places, records);
+    let mut lasts = [0; 64];
+    let mut joins = [65535; 64];
+    let mut state = strands::begin(labels, links);
+    let mut i = 0;
+    while i < k {
+        match take(
+            part,
+            i,
+            state,
+            &mut lasts,
+            &mut joins,
+            labels,
+            links,
+            places,
+        ) {
+            Turn::Raced { first, record } => {
+                return Answer::Race {
+                    first,
+                    second: i,
+                    record,
+                    strands: state.strands,
+                    english: state.english,
+                    hebrew: state.hebrew,
+                };
+            }
+            Turn::Go(next) => {
+                state = next;
+            }
+        }
+        i += 1;
+    }
+    Answer::Clean {
+        strands: state.strands,
+        english: state.english,
+        hebrew: state.hebrew,
+    }
+}
+
+// Event i: what it meets at its record's places, and else the strand that it may begin.
+fn take(
+    part: &[u8],
+    i: usize,
+    state: Now,
+    lasts: &mut [usize; 64],
+    joins: &mut [usize; 64],
+    labels: &mut [u64],
+    links: &mut [u16],
+    places: &mut [u32],
+) -> Turn
+    requires { ⌜ Turnable (now part) i (now labels) (now links) (now places) (now lasts) (now joins) state ⌝ }
+    ensures { λ r. ⌜ Turns (now (part .entry)) i (now (labels .entry)) (now (links .entry)) (now (places .entry)) (now (lasts .entry)) (now (joins .entry)) state (now (labels .exit)) (now (links .exit)) (now (places .exit)) (now (lasts .exit)) (now (joins .exit)) r ⌝ }
+{
+    let e = jobfile::event_at(part, i);
+    match meet(e, i, state.strands - 1, places, labels) {
+        Met::First(first) => Turn::Raced {
+            first,
+            record: record_of(e),
+        },
+        Met::Nothing => Turn::Go(strands::advance(e, state, lasts, joins, labels, links)),
+    }
+}
+
+// What event number `at`, in strand `strand`, meets at its record's places; only an access meets anything.
+fn meet(e: Event, at: usize, strand: usize, places: &mut [u32], labels: &[u64]) -> Met
+    requires { ⌜ Meetable (now places) (now labels) e at strand ⌝ }
+    ensures { λ m. ⌜ Meets (now (places .entry)) (now (labels .entry)) e at strand (now (places .exit)) m ⌝ }
+{
+    match e {
+        Event::Read(r) => races::read(places, labels, r as usize, at, strand),
+        Event::Write(r) => races::write(places, labels, r as usize, at, strand),
+        Event::Spawn => Met::Nothing,
+        Event::End => Met::Nothing,
+        Event::Sync => Met::Nothing,
+    }
+}
+
+// The record of an access, and 0 for any other event.
+fn record_of(e: Event) -> usize
+    ensures { λ r. ⌜ r ≡ recordOf e ⌝ }
+{
+    match e {
+        Event::Read(r) => r as usize,
+        Event::Write(r) => r as usize,
+        Event::Spawn => 0,
+        Event::End => 0,
+        Event::Sync => 0,
+    }
+}

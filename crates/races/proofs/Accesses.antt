@@ -15,16 +15,18 @@ use Rattle.relation.specs.Strand.{strandAt}
 use Rattle.relation.proofs.Strand.{begun-some, begun-rises}
 use Rattle.races.specs.Race.{write, accessOf, recordOf, conflict, secondIn}
 use Rattle.races.specs.Places.{holds, parTo, lastWrite, standing}
+use Rattle.races.specs.Verdict.{clean, race}
+use Rattle.races.specs.declared.Met.{Met}
 use Rattle.races.specs.declared.Met.the-variants.{First, Nothing}
-use Rattle.races.specs.Shown.{eventOr, strandOr, Judgeable, Askable, Answers}
+use Rattle.races.specs.Shown.{eventOr, strandOr, Judgeable, Judged, Askable, Answers}
 use Rattle.races.specs.Entries.{metIn, put, Place}
 use Rattle.races.proofs.Places.{holds-some, last-write-is, standing-read-is}
-use Rattle.races.proofs.Verdict.{read-clean, write-clean, last-write-races, standing-read-races}
-use Rattle.races.proofs.Shown.{write-shown, read-shown, read-kept}
+use Rattle.races.proofs.Verdict.{clean-all, read-clean, write-clean, last-write-races, standing-read-races}
+use Rattle.races.proofs.Shown.{shown-unique, write-shown, read-shown, read-kept}
 
 module _
-  {ev : ℕ → Event} {n records : ℕ} {P₀ P L : List ℕ} {e : Event} {r at strand : ℕ}
-  (J : Judgeable ev n records P₀ P L e r at strand) where
+    {ev : ℕ → Event} {n records : ℕ} {P₀ P L : List ℕ} {e : Event} {r at strand : ℕ}
+    (J : Judgeable ev n records P₀ P L e r at strand) where
   -- the strand of an earlier event has a label
   labelled : (m : ℕ) → m < n → 4096 + strandAt ev m < length L
   labelled m l = omega (arith, begun-some ev m, begun-rises ev m n (omega arith), J .few, J .labels-room)
@@ -101,7 +103,7 @@ module _ (P L : List ℕ) (r at strand : ℕ) where
       let h = holds-some (parTo ev n) (lastWrite ev r n) (sym (last-write-met J) ∙ t) in
       let w : getD P r 0 ≡ h .0 = J .shown .write r (J .on-record) ∙ ap eventOr (h .1) in (
         refl,
-        λ clean k l. rw w (last-write-races ev r n (h .0) clean (rw (J .event) clash) (rw (J .event) same) (h .1) (h .2) k l),
+        λ quiet k l. rw w (last-write-races ev r n (h .0) quiet (rw (J .event) clash) (rw (J .event) same) (h .1) (h .2) k l),
       )
 
   module _ (past : metIn L P r strand ≡ false) where
@@ -111,35 +113,47 @@ module _ (P L : List ℕ) (r at strand : ℕ) where
         let h = holds-some (parTo ev n) (standing ev r n) (sym (standing-read-met J) ∙ t) in
         let s : getD P (8192 + r) 0 ≡ h .0 = J .shown .read r (J .on-record) ∙ ap eventOr (h .1) in (
           refl,
-          λ clean k l.
-              rw s
-              (standing-read-races ev r n (h .0) clean (J .event) (sym (last-write-met J) ∙ past) (h .1) (h .2) k l),
+          λ quiet k l.
+              rw s (standing-read-races ev r n (h .0) quiet (J .event) (sym (last-write-met J) ∙ past) (h .1) (h .2) k l),
         )
 
     -- a write, and neither is
     pub write-taken : metIn L P (8192 + r) strand ≡ false → Answers P L (Write r) r at strand (put P r at strand) Nothing
     write-taken f ev n records P₀ J = (
-      λ clean.
-          write-clean ev r n clean (J .event) (sym (last-write-met J) ∙ past)
-          (sym (standing-read-met J) ∙ f),
+      λ quiet. write-clean ev r n quiet (J .event) (sym (last-write-met J) ∙ past) (sym (standing-read-met J) ∙ f),
       write-shown J,
     )
 
     -- a read is clean
     read-passes : (ev : ℕ → Event) (n records : ℕ) (P₀ : List ℕ) → Judgeable ev n records P₀ P L (Read r) r at strand
         → secondIn ev n ≡ none → secondIn ev (suc n) ≡ none
-    read-passes ev n records P₀ J clean =
-        read-clean ev r n clean (J .event) (sym (last-write-met J) ∙ past)
+    read-passes ev n records P₀ J quiet = read-clean ev r n quiet (J .event) (sym (last-write-met J) ∙ past)
 
     -- and comes to stand, unless the standing read is parallel
     pub read-taken : metIn L P (8192 + r) strand ≡ false → Answers P L (Read r) r at strand (put P (8192 + r) at strand) Nothing
-    read-taken f ev n records P₀ J = (
-      read-passes ev n records P₀ J,
-      read-shown J (sym (standing-read-met J) ∙ f),
-    )
+    read-taken f ev n records P₀ J = (read-passes ev n records P₀ J, read-shown J (sym (standing-read-met J) ∙ f))
 
     pub read-left : metIn L P (8192 + r) strand ≡ true → Answers P L (Read r) r at strand P Nothing
-    read-left t ev n records P₀ J = (
-      read-passes ev n records P₀ J,
-      read-kept J (sym (standing-read-met J) ∙ t),
-    )
+    read-left t ev n records P₀ J = (read-passes ev n records P₀ J, read-kept J (sym (standing-read-met J) ∙ t))
+
+-- while no race has been met, no second answer fits, and no second contents of the places
+pub answer-unique : (P L : List ℕ) (e : Event) (r at strand : ℕ) (A : Askable P L e r at strand) → secondIn (A .ev) (A .n) ≡ none
+    → (P′ P″ : List ℕ) (m m′ : Met) → Answers P L e r at strand P′ m → Answers P L e r at strand P″ m′ → (P′ ≡ P″) × (m ≡ m′)
+answer-unique P L e r at strand A quiet P′ P″ m m′ one other =
+    go m m′ (one (A .ev) (A .n) (A .records) (A .P₀) (A .judgeable)) (other (A .ev) (A .n) (A .records) (A .P₀) (A .judgeable))
+  where
+    go : (m m′ : Met) → Judged (A .ev) (A .n) (A .records) (A .P₀) P P′ r m → Judged (A .ev) (A .n) (A .records) (A .P₀) P P″ r m′
+        → (P′ ≡ P″) × (m ≡ m′)
+    go (First f) (First g) a b =
+        let v : race f (A .n) r ≡ race g (A .n) r = sym (a .1 quiet (suc (A .n)) (omega arith) .0) ∙ b .1 quiet (suc (A .n)) (omega arith) .0 in
+        let same : f ≡ g = cc in
+        (a .0 ∙ sym (b .0), ap First same)
+    go (First f) Nothing a b =
+        let v : race f (A .n) r ≡ clean = sym (a .1 quiet (suc (A .n)) (omega arith) .0) ∙ clean-all (A .ev) (suc (A .n)) (b .0 quiet) .0 in
+        let z : _≡_ {A = ℕ} 0 1 = cc in
+        absurd (omega arith)
+    go Nothing (First g) a b =
+        let v : race g (A .n) r ≡ clean = sym (b .1 quiet (suc (A .n)) (omega arith) .0) ∙ clean-all (A .ev) (suc (A .n)) (a .0 quiet) .0 in
+        let z : _≡_ {A = ℕ} 0 1 = cc in
+        absurd (omega arith)
+    go Nothing Nothing a b = (shown-unique (A .ev) (suc (A .n)) (A .records) (A .P₀) P′ P″ (a .1) (b .1), refl)

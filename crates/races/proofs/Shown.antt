@@ -1,23 +1,26 @@
 -- The places show the events before n (`Shown`): so they do before any event once they are emptied, and what an access that does not
 -- race puts there makes them show one event more. The four entries of each record are two rows (`Row`). Assumes nothing.
 use mathlib.Core.Path.{_≡_, refl, sym, _∙_}
-use mathlib.Core.Logic.{_≢_}
+use mathlib.Core.Logic.{_⊎_, inl, inr, ⊎-elim, _≢_}
 use mathlib.Core.List.{List}
 use mathlib.Core.Bool.{Bool, true, false, false≢true}
 use mathlib.Core.Option.{Option, none, some}
-use Prim.Native.Nat.{ℕ, suc, _+_, _≤_, _<_}
+use Prim.Native.Nat.{ℕ, suc, _+_, _-_, _≤_, _<_}
 use native.Mathlib.Nat.{zero-add}
 use native.Mathlib.Omega.{arith}
+use native.Mathlib.Decide.{decLe, decLt}
 use lib.Dec.{eqb}
 use lib.ListN.{length, getD}
+use lib.Seq.{ext-getD}
 use borrow.Author.Tests.{eqb-true, eqb-false}
 use Rattle.jobfile.specs.declared.coding.Event.{Event}
 use Rattle.jobfile.specs.declared.coding.Event.the-variants.{Read, Write}
 use Rattle.relation.specs.Strand.{strandAt}
+use Rattle.races.specs.Race.{other, accessOf}
 use Rattle.races.specs.Places.{holds, stood, parTo, lastWrite, standing}
 use Rattle.races.specs.Shown.{Shown, Judgeable}
 use Rattle.races.specs.Entries.{put}
-use Rattle.races.proofs.Places.{Kept, last-write-next, standing-next, elsewhere-keeps, write-takes, read-takes, no-write-yet, no-read-yet}
+use Rattle.races.proofs.Places.{Kept, last-write-next, standing-next, other-keeps, elsewhere-keeps, write-takes, read-takes, no-write-yet, no-read-yet}
 use Rattle.races.proofs.Entries.{put-length, put-other, Row, row-put, row-apart, row-same}
 
 -- a read comes to stand just where nothing parallel to it stands
@@ -28,6 +31,22 @@ stood-new test n (some s) f = rw f
 stood-old : (test : ℕ → Bool) (n : ℕ) (o : Option ℕ) → holds test o ≡ true → stood test n o ≡ o
 stood-old test n none t = absurd (false≢true t)
 stood-old test n (some s) t = rw t
+
+-- entry i is some record's, or no record's, among the entries that begin at `from`
+abbrev Of : ℕ → ℕ → ℕ → Type 0
+Of from records i = (r : ℕ) × (r < records) × (i ≡ from + r)
+
+abbrev Off : ℕ → ℕ → ℕ → Type 0
+Off from records i = (r : ℕ) → r < records → i ≢ from + r
+
+within : (from records i : ℕ) → Of from records i ⊎ Off from records i
+within from records i = go (decLe from i) (decLt (i - from) records)
+  where
+    go : Dec (from ≤ i) → Dec (i - from < records) → Of from records i ⊎ Off from records i
+    go (yes a) (yes b) = inl (i - from, b, omega arith)
+    go (yes a) (no b) = inr (λ r l e. omega arith)
+    go (no a) (yes b) = inr (λ r l e. omega arith)
+    go (no a) (no b) = inr (λ r l e. omega arith)
 
 module _ (ev : ℕ → Event) where
   -- entry i is no record's
@@ -59,6 +78,31 @@ module _ (ev : ℕ → Event) where
       size = size;
     }
 
+  -- what the places show is all there is to them: no second contents fit
+  pub shown-unique : (n records : ℕ) (P₀ P Q : List ℕ) → Shown ev n records P₀ P → Shown ev n records P₀ Q → P ≡ Q
+  shown-unique n records P₀ P Q S T = ext-getD 0 P Q (S .size ∙ sym (T .size)) (λ i l. same i)
+    where
+      same : (i : ℕ) → getD P i 0 ≡ getD Q i 0
+      same i =
+          ⊎-elim
+          (λ (w : Of 0 records i). let e : i ≡ w .0 = omega (arith, w .2) in rw e (S .write (w .0) (w .1) ∙ sym (T .write (w .0) (w .1))))
+          (λ (a : Off 0 records i).
+          ⊎-elim
+          (λ (w : Of 4096 records i). rw (w .2) (S .write-strand (w .0) (w .1) ∙ sym (T .write-strand (w .0) (w .1))))
+          (λ (b : Off 4096 records i).
+          ⊎-elim
+          (λ (w : Of 8192 records i). rw (w .2) (S .read (w .0) (w .1) ∙ sym (T .read (w .0) (w .1))))
+          (λ (c : Off 8192 records i).
+          ⊎-elim
+          (λ (w : Of 12288 records i). rw (w .2) (S .read-strand (w .0) (w .1) ∙ sym (T .read-strand (w .0) (w .1))))
+          (λ (d : Off 12288 records i).
+          let out : Outside records i = λ r l. (rw zero-add at (a r l), b r l, c r l, d r l) in
+          S .others i out ∙ sym (T .others i out))
+          (within 12288 records i))
+          (within 8192 records i))
+          (within 4096 records i))
+          (within 0 records i)
+
   -- emptied places show that no event has happened: none emptied yet, and one record more
   pub none-emptied : (P : List ℕ) → Shown ev 0 0 P P
   none-emptied P = record {
@@ -74,12 +118,10 @@ module _ (ev : ℕ → Event) where
       → Shown ev 0 (k + 1) P₀ (put (put P k 4294967295 4294967295) (8192 + k) 4294967295 4294967295)
   one-emptied k P₀ P S small room =
       let Q = put P k 4294967295 4294967295 in
-      let writes : Row ev 0 (k + 1) (writesAt 0) Q =
-      rw zero-add at (row-put ev 0 k (writesAt 0) P (shown-writes 0 k P₀ P S) k (k + 1) (writesAt 0) none (no-write-yet ev k)
+      let writes : Row ev 0 (k + 1) (writesAt 0) Q = rw zero-add at (row-put ev 0 k (writesAt 0) P (shown-writes 0 k P₀ P S) k (k + 1) (writesAt 0) none (no-write-yet ev k)
       (λ q l d. (omega arith, refl)) small (omega arith) (omega (arith, S .size)))
       in
-      let reads : Row ev 8192 k (readsAt 0) Q =
-      row-apart ev 8192 k (readsAt 0) P (shown-reads 0 k P₀ P S) k 4294967295 4294967295
+      let reads : Row ev 8192 k (readsAt 0) Q = row-apart ev 8192 k (readsAt 0) P (shown-reads 0 k P₀ P S) k 4294967295 4294967295
       (λ q l. (omega arith, omega arith, omega arith, omega arith))
       in
       rows-shown 0 (k + 1) P₀ (put Q (8192 + k) 4294967295 4294967295)
@@ -102,15 +144,25 @@ module _ (ev : ℕ → Event) where
       rows-shown (suc n) records P₀ (put P p event strand) writes reads
       (λ i o. put-other P p event strand i (inside i o .0) (inside i o .1) ∙ S .others i o) (put-length P p event strand ∙ S .size)
 
+  -- what the places are to hold is what they held
+  kept-shown : (n records : ℕ) (P₀ P : List ℕ) → ((q : ℕ) → Kept ev q n) → Shown ev n records P₀ P → Shown ev (suc n) records P₀ P
+  kept-shown n records P₀ P kept S =
+      rows-shown (suc n) records P₀ P
+      (row-same ev 0 records (writesAt n) P (shown-writes n records P₀ P S) (writesAt (suc n)) (λ q. kept q .same-write))
+      (row-same ev 8192 records (readsAt n) P (shown-reads n records P₀ P S) (readsAt (suc n)) (λ q. kept q .same-read)) (S .others) (S .size)
+
+  -- an event that is no access leaves the places as they are
+  pub other-shown : (n records : ℕ) (P₀ P : List ℕ) → accessOf (ev n) ≡ other → Shown ev n records P₀ P → Shown ev (suc n) records P₀ P
+  other-shown n records P₀ P e S = kept-shown n records P₀ P (λ q. other-keeps ev q n e) S
+
 -- An access that may be judged, and does not race: what it makes of the places.
 module _ {ev : ℕ → Event} {n records : ℕ} {P₀ P L : List ℕ} {r at strand : ℕ} where
   -- a write becomes the last one
   pub write-shown : Judgeable ev n records P₀ P L (Write r) r at strand → Shown ev (suc n) records P₀ (put P r at strand)
   write-shown J =
       let writes = shown-writes ev n records P₀ P (J .shown) in
-      let reads =
-          row-apart ev 8192 records (readsAt ev n) P (shown-reads ev n records P₀ P (J .shown)) r n (strandAt ev n)
-          (λ q l. (omega arith, omega arith, omega arith, omega arith))
+      let reads = row-apart ev 8192 records (readsAt ev n) P (shown-reads ev n records P₀ P (J .shown)) r n (strandAt ev n)
+      (λ q l. (omega arith, omega arith, omega arith, omega arith))
       in
       rw (J .number, J .strand-is)
       (put-shown ev n records P₀ P r n (strandAt ev n) (J .shown) (λ i o. let d = o r (J .on-record) in (d .0, omega arith))
@@ -127,9 +179,8 @@ module _ {ev : ℕ → Event} {n records : ℕ} {P₀ P L : List ℕ} {r at stra
     pub read-shown : holds (parTo ev n) (standing ev r n) ≡ false → Shown ev (suc n) records P₀ (put P (8192 + r) at strand)
     read-shown f =
         let reads = shown-reads ev n records P₀ P (J .shown) in
-        let writes =
-            row-apart ev 0 records (writesAt ev n) P (shown-writes ev n records P₀ P (J .shown)) (8192 + r) n (strandAt ev n)
-            (λ q l. (omega arith, omega arith, omega arith, omega arith))
+        let writes = row-apart ev 0 records (writesAt ev n) P (shown-writes ev n records P₀ P (J .shown)) (8192 + r) n (strandAt ev n)
+        (λ q l. (omega arith, omega arith, omega arith, omega arith))
         in
         rw (J .number, J .strand-is)
         (put-shown ev n records P₀ P (8192 + r) n (strandAt ev n) (J .shown) (λ i o. let d = o r (J .on-record) in (d .2, omega arith))
@@ -140,11 +191,7 @@ module _ {ev : ℕ → Event} {n records : ℕ} {P₀ P L : List ℕ} {r at stra
 
     -- and changes nothing where the standing read is parallel to it
     pub read-kept : holds (parTo ev n) (standing ev r n) ≡ true → Shown ev (suc n) records P₀ P
-    read-kept t =
-        rows-shown ev (suc n) records P₀ P
-        (row-same ev 0 records (writesAt ev n) P (shown-writes ev n records P₀ P (J .shown)) (writesAt ev (suc n)) same-writes)
-        (row-same ev 8192 records (readsAt ev n) P (shown-reads ev n records P₀ P (J .shown)) (readsAt ev (suc n)) (λ q. same q (eqb r q) refl))
-        (J .shown .others) (J .shown .size)
+    read-kept t = kept-shown ev n records P₀ P (λ q. record { same-write = same-writes q; same-read = same q (eqb r q) refl }) (J .shown)
       where
         same : (q : ℕ) (c : Bool) → eqb r q ≡ c → standing ev q (suc n) ≡ standing ev q n
         same q true e =

@@ -1,5 +1,4 @@
 -- One place in the lent places: its event stands at some entry, and its strand 4,096 entries on. How it is asked, and how it is set.
-use mathlib.Core.Path.{_≡_}
 use mathlib.Core.Logic.{_≢_}
 use mathlib.Core.List.{List}
 use mathlib.Core.Bool.{Bool, false, cond}

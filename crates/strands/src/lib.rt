@@ -17,7 +17,7 @@ pub struct Now {
 }
 
 // Begins both orders with strand 0 alone: the root is open, with nothing to join.
-// requires: the buffers have the lengths of 01; judging refuses shorter ones before it stores anything.
+// requires: the buffers have every entry of both orders; judging refuses shorter ones before it stores anything.
 pub fn begin(labels: &mut [u64], links: &mut [u16]) -> Now
     requires { ⌜ (8192 ≤ length (now labels)) × (16384 ≤ length (now links)) ⌝ }
     ensures { λ r. ⌜ Started (now (labels .entry)) (now (links .entry)) (now (labels .exit)) (now (links .exit)) r ⌝ }

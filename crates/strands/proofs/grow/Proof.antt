@@ -18,11 +18,11 @@ I c = c .before .before .before .before .before .before
 abbrev J : tie.After-struct-known → tie.After-insert2
 J c = c .before .before .before .before .before
 
-few : (c : tie.After-insert) → c .insert .result ≤ 4096
-few c = english-counts _ _ _ _ (S c .pre) _ _ _ (c .insert .ensures)
+english-few : (c : tie.After-insert) → c .insert .result ≤ 4096
+english-few c = english-counts _ _ _ _ (S c .pre) _ _ _ (c .insert .ensures)
 
-few-2 : (c : tie.After-insert2) → c .insert2 .result ≤ 4096
-few-2 c = hebrew-counts _ _ _ _ (S (I (c .before)) .pre) _ _ _ (I (c .before) .insert .ensures) _ _ _ (c .insert2 .ensures)
+hebrew-few : (c : tie.After-insert2) → c .insert2 .result ≤ 4096
+hebrew-few c = hebrew-counts _ _ _ _ (S (I (c .before)) .pre) _ _ _ (I (c .before) .insert .ensures) _ _ _ (c .insert2 .ensures)
 
 sub-last : tie.Need-sub-last
 sub-last c = search needs
@@ -37,10 +37,10 @@ add-t18 : tie.Need-add-t18
 add-t18 c = search needs
 
 add-t19 : tie.Need-add-t19
-add-t19 c = omega (arith, few (I (J c .before)))
+add-t19 c = omega (arith, english-few (I (J c .before)))
 
 add-t20 : tie.Need-add-t20
-add-t20 c = omega (arith, few-2 (J (c .before)))
+add-t20 c = omega (arith, hebrew-few (J (c .before)))
 
 same-length : tie.Need-same-length
 same-length c = search needs
