@@ -2,7 +2,7 @@
 use libc::STDIN_FILENO;
 use libc::STDOUT_FILENO;
 
-// The longest line has fewer than 256 bytes.
+// An output of 256 bytes is never too short, as the contract of `line` says.
 fn print_line(input: &[u8]) {
     let mut labels = [0u64; 8192];
     let mut links = [0u16; 16384];
