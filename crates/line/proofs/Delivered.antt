@@ -2,14 +2,14 @@
 use Prim.Native.Nat.{ℕ, _+_, _≤_, _<_}
 use native.Mathlib.Omega.{arith}
 use native.Mathlib.Nat.{zero-add}
-use mathlib.Core.Path.{_≡_, refl, _∙_}
-use mathlib.Core.List.{List, [], _++_}
-use lib.ListN.{length, take, drop}
+use mathlib.Core.Path.{_≡_, refl}
+use mathlib.Core.List.{List, _++_}
+use lib.ListN.{length, drop}
 use borrow.Author.Tests.{lt-ltb, le-ltb}
 use Rattle.io.specs.Counts.{Counts}
 use Rattle.line.specs.declared.Lined.the-variants.{Bytes, Short}
 use Rattle.line.specs.Put.{Put}
-use Rattle.line.specs.Text.{linedOf, outOf}
+use Rattle.line.specs.Line.{linedOf, outOf}
 use Rattle.line.proofs.Puts.{put-whole, put-counted}
 
 module _ (line out : List ℕ) where

@@ -17,7 +17,8 @@ use Rattle.races.specs.Race.{races, raced}
 use Rattle.races.specs.Places.{standingOf, firstOf}
 use Rattle.races.specs.Verdict.{verdict, stopAt}
 use Rattle.judging.specs.Answers.{judgedOf, noRoom, judgeFault, judgeOf}
-use Rattle.line.specs.Text.{ascii, digitsWithin, pairText, kindsText, countsText, nameText, refusalText, lineOf}
+use Rattle.line.specs.Text.{ascii, digitsWithin, pairText, kindsText, countsText, nameText, refusalText}
+use Rattle.line.specs.Line.{lineOf}
 
 -- the whole file `L4`, events W0 S R0 W1 E R0 W1 J
 abbrev pub fileL4 : List ℕ
@@ -47,8 +48,8 @@ lines = map (λ (input : List ℕ). lineOf input 8192 16384 16384)
 
 pub small-lines : lines (fileL4 ∷ emptyJob ∷ [] ∷ [])
     ≡ (ascii "race record 1 first 3 second 6 kinds WW strands 3 english 3 hebrew 3 name L4\n"
-      ∷ ascii "clean strands 1 english 1 hebrew 1 name \n"
-      ∷ ascii "refused 1 event 0\n"
-      ∷ [])
+    ∷ ascii "clean strands 1 english 1 hebrew 1 name \n"
+    ∷ ascii "refused 1 event 0\n"
+    ∷ [])
 unfolding lineOf digitsWithin pairText kindsText countsText nameText refusalText judgeOf judgeFault noRoom judgedOf checkOf headOf headSized headNamed trailerFault printable startsWith wordAt traceFrom finish stepOn taskFault eventOf eventAt tasksAt begunAt opened moveAt walkFor walk any least last races raced standingOf firstOf verdict stopAt cells stateAt countAt insertAfter differ ceiling limit gapAt hasRoom middle spread insertLab insertState diffs insertCount
 small-lines = refl

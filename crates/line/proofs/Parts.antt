@@ -1,6 +1,6 @@
 -- The parts of an input that its line speaks of: the events are as many as are judged, a pair is among them, and the name is short.
 -- Assumes nothing.
-use Prim.Native.Nat.{ℕ, _+_, _*_, _/_, _≤_, _<_}
+use Prim.Native.Nat.{ℕ, _*_, _/_, _≤_}
 use native.Mathlib.Omega.{arith}
 use mathlib.Core.Path.{_≡_, refl, _∙_}
 use mathlib.Core.Bool.{Bool, true, false, cond}
@@ -19,7 +19,8 @@ use Rattle.races.proofs.Named.{verdict-race}
 use Rattle.judging.specs.Answers.{answerWith, judgedOf, judgeFault, afterCheck, judgeOf}
 use Rattle.judging.specs.declared.Answer.{Answer}
 use Rattle.judging.specs.declared.Answer.the-variants.{Refused}
-use Rattle.line.specs.Text.{answerText, answerOf, lineOf, PairWithin}
+use Rattle.line.specs.Text.{answerText, PairWithin}
+use Rattle.line.specs.Line.{answerOf, lineOf}
 
 module _ (file : List ℕ) where
   -- four bytes for each event

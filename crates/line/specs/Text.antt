@@ -1,23 +1,16 @@
--- The one line that the program prints, byte by byte, as a function of the input's bytes.
-use Prim.Native.Nat.{ℕ, zero, suc, _+_, _*_, _/_, _%_, _≤_, _<_}
+-- The words, numbers and fields of a line as bytes, and the text of each answer.
+use Prim.Native.Nat.{ℕ, zero, suc, _+_, _*_, _/_, _%_, _≤_}
 use Prim.Native.String.{String, [] as empty, _∷_ as _then_}
 use Prim.Native.Char.{code}
-use mathlib.Core.Path.{_≡_}
 use mathlib.Core.Bool.{cond}
 use mathlib.Core.List.{List, [], _∷_, _++_}
 use lib.Dec.{ltb}
-use lib.ListN.{length, take, drop}
-use Rattle.io.specs.Counts.{Counts}
-use Rattle.jobfile.specs.File.{checkOf, nameLength, eventCount, eventPart}
 use Rattle.jobfile.specs.Trace.{eventAt}
 use Rattle.jobfile.specs.declared.coding.Event.{Event}
 use Rattle.jobfile.specs.declared.coding.Event.the-variants.{Spawn, End, Sync, Read, Write}
 use Rattle.jobfile.specs.declared.refusal.Refusal.{Refusal}
-use Rattle.judging.specs.Answers.{judgeOf}
 use Rattle.judging.specs.declared.Answer.{Answer}
 use Rattle.judging.specs.declared.Answer.the-variants.{Clean, Race, Refused}
-use Rattle.line.specs.declared.Lined.{Lined}
-use Rattle.line.specs.declared.Lined.the-variants.{Bytes, Short}
 
 -- a word as bytes
 abbrev pub ascii : String → List ℕ
@@ -75,27 +68,6 @@ abbrev pub answerText : Answer → List ℕ → List ℕ → List ℕ
 answerText (Clean strands english hebrew) events name = cleanText strands english hebrew name
 answerText (Race first second number strands english hebrew) events name = raceText first second number strands english hebrew events name
 answerText (Refused r) events name = refusalText r
-
--- "judges all its events": the answer for an input and the lengths of labels, links and places
-abbrev pub answerOf : List ℕ → ℕ → ℕ → ℕ → Answer
-answerOf input labels links places = judgeOf input (eventCount (checkOf input)) labels links places
-
-unfoldable pub lineOf : List ℕ → ℕ → ℕ → ℕ → List ℕ
-lineOf input labels links places =
-    answerText (answerOf input labels links places) (eventPart input) (take (nameLength (checkOf input)) input)
-
--- what comes back for a line and an output of so many bytes
-unfoldable pub linedOf : List ℕ → ℕ → Lined
-linedOf line room = cond (ltb room (length line)) Short (Bytes (length line))
-
--- what is in the output then: the line and what was there behind it, or all as it was
-unfoldable pub outOf : List ℕ → List ℕ → List ℕ
-outOf line out = cond (ltb (length out) (length line)) out (line ++ drop (length line) out)
-
--- the bounds that a caller needs, of the output afterwards: so many bytes of it are the line, and 256 bytes are always enough
-abbrev pub LineFits : Lined → List ℕ → Type 0
-LineFits (Bytes n) out = Counts n out
-LineFits Short out = length out < 256
 
 -- the pair of an answer that names one is within so many bytes of events
 abbrev pub PairWithin : Answer → ℕ → Type 0

@@ -1,6 +1,5 @@
 // The line of each answer, from the start of a buffer. Each function answers where the next bytes go.
 ghost use mathlib.Core.Path.{_≡_};
-ghost use mathlib.Core.List.{_++_};
 ghost use Prim.Native.Nat.{_+_, _*_, _≤_};
 ghost use lib.ListN.{length};
 ghost use Rattle.jobfile.specs.Trace.{eventAt};
@@ -66,9 +65,9 @@ fn ending(out: &mut [u8], at: usize, name: &[u8]) -> usize
     ensures { λ r. ⌜ Put (now (out .entry)) at (nameText (now (name .entry))) r (now (out .exit)) ⌝ }
     ensures { λ r. ⌜ r ≤ at + length (now (name .entry)) + 7 ⌝ }
 {
-    let a = put(out, at, b" name ");
-    let b = put(out, a, name);
-    put(out, b, b"\n")
+    let word = put(out, at, b" name ");
+    let named = put(out, word, name);
+    put(out, named, b"\n")
 }
 
 // requires: there is room for two words, two numbers and a line feed.
@@ -140,7 +139,15 @@ pub fn answer(out: &mut [u8], answer: Answer, events: &[u8], name: &[u8]) -> usi
             english,
             hebrew,
         } => race(
-            out, first, second, record, strands, english, hebrew, events, name,
+            out,
+            first,
+            second,
+            record,
+            strands,
+            english,
+            hebrew,
+            events,
+            name,
         ),
         Answer::Refused(r) => refusal(out, r),
     }

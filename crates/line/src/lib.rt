@@ -8,9 +8,7 @@ mod text;
 ghost use mathlib.Core.Path.{_≡_};
 ghost use Prim.Native.Nat.{_≤_};
 ghost use lib.ListN.{length};
-ghost use Rattle.jobfile.specs.File.{checkOf, eventCount};
-ghost use Rattle.judging.specs.Buffers.{Leaves};
-ghost use Rattle.line.specs.Text.{answerOf, lineOf, linedOf, outOf, LineFits};
+ghost use Rattle.line.specs.Line.{linedOf, outOf, LineFits, LineGives};
 use text::put;
 
 // How many bytes the line has; or that the output is shorter than it.
@@ -28,9 +26,7 @@ pub fn line(
     places: &mut [u32],
     out: &mut [u8],
 ) -> Lined
-    ensures { λ r. ⌜ r ≡ linedOf (lineOf (now (input .entry)) (length (now (labels .entry))) (length (now (links .entry))) (length (now (places .entry)))) (length (now (out .entry))) ⌝ }
-    ensures { λ _. ⌜ now (out .exit) ≡ outOf (lineOf (now (input .entry)) (length (now (labels .entry))) (length (now (links .entry))) (length (now (places .entry)))) (now (out .entry)) ⌝ }
-    ensures { λ _. ⌜ Leaves (answerOf (now (input .entry)) (length (now (labels .entry))) (length (now (links .entry))) (length (now (places .entry)))) (now (input .entry)) (eventCount (checkOf (now (input .entry)))) (now (labels .entry)) (now (links .entry)) (now (places .entry)) (now (labels .exit)) (now (links .exit)) (now (places .exit)) ⌝ }
+    ensures { λ r. ⌜ LineGives (now (input .entry)) (now (labels .entry)) (now (links .entry)) (now (places .entry)) (now (out .entry)) r (now (labels .exit)) (now (links .exit)) (now (places .exit)) (now (out .exit)) ⌝ }
     ensures { λ r. ⌜ LineFits r (now (out .exit)) ⌝ }
 {
     let events = jobfile::events(input);

@@ -1,5 +1,4 @@
 // Bytes, numbers and fields, put at a place of a buffer. Each function answers where the next go.
-ghost use mathlib.Core.Path.{_≡_};
 ghost use mathlib.Core.List.{_++_};
 ghost use Prim.Native.Nat.{_+_, _≤_};
 ghost use lib.ListN.{length};

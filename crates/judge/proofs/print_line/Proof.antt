@@ -1,55 +1,41 @@
+-- `print_line` meets its contract: as many bytes of the output are written as `line` says, which are at most its length. Assumes nothing.
 use borrow.Author.Needs.{needs}
 use Rattle.judge.proofs.print_line.Statement.{statement}
 use Rattle.judge.proofs.print_line.Tie as tie
-use Rattle.judge.proofs.print_line.Reads as reads
-use Rattle.judge.proofs.print_line.Lts as lts
-use Rattle.io.proofs.write_all.Reads as write-all-reads
-use Rattle.line.proofs.line.Reads as line-reads
 
--- src/main.rt:11:29
 slice-aggregate-line : tie.Need-slice-aggregate-line
 slice-aggregate-line c = search needs
 
--- src/main.rt:11:42
 slice-aggregate-line-2 : tie.Need-slice-aggregate-line-2
 slice-aggregate-line-2 c = search needs
 
--- src/main.rt:11:54
 slice-aggregate-line-3 : tie.Need-slice-aggregate-line-3
 slice-aggregate-line-3 c = search needs
 
--- src/main.rt:11:67
 slice-aggregate-line-4 : tie.Need-slice-aggregate-line-4
 slice-aggregate-line-4 c = search needs
 
--- src/main.rt:11:11
 line-requires : tie.Need-line-requires
 line-requires c κs = search needs
 
--- src/main.rt:12:28
 enum-known-n : tie.Need-enum-known-n
 enum-known-n c = search needs
 
--- src/main.rt:13:42
 array-share-prefix-out : tie.Need-array-share-prefix-out
-array-share-prefix-out c = (rw (c .before .n .given .1) at (c .before .before .before .before .before .before .before .line .ensures .1 .1 .1)) .0
+array-share-prefix-out c = (rw (c .before .n .given .1) at (c .before .before .before .before .before .before .before .line .ensures .1)) .0
 
--- src/main.rt:13:42
 slice-aggregate-write-all : tie.Need-slice-aggregate-write-all
-slice-aggregate-write-all c = (rw (c .before .before .n .given .1) at (c .before .before .before .before .before .before .before .before .line .ensures .1 .1 .1)) .1
+slice-aggregate-write-all c = (rw (c .before .before .n .given .1) at (c .before .before .before .before .before .before .before .before .line .ensures .1)) .1
 
--- src/main.rt:13:13
 write-all-requires : tie.Need-write-all-requires
 write-all-requires c κs = search needs
 
 enum-told : tie.Need-enum-told
 enum-told c = search needs
 
--- src/main.rt:6:1
 returns : tie.Need-returns
 returns c = search needs
 
--- src/main.rt:6:1
 returns-2 : tie.Need-returns-2
 returns-2 c = search needs
 

@@ -1,25 +1,19 @@
+-- `deliver` meets its contract: the test says whether the line fits, and a law says what each answer is. Assumes nothing.
 use native.Mathlib.Omega.{arith}
 use Rattle.line.proofs.Delivered.{too-short, delivered}
 use borrow.Author.Needs.{needs}
 use Rattle.line.proofs.deliver.Statement.{statement}
 use Rattle.line.proofs.deliver.Tie as tie
-use Rattle.line.proofs.deliver.Reads as reads
-use Rattle.line.proofs.deliver.Lts as lts
-use Rattle.line.proofs.text.put.Reads as put-reads
 
--- src/lib.rt:25:9
 returns : tie.Need-returns
 returns c = too-short (c .before .before .before .args .text .now) (c .before .before .before .args .out .now) (omega arith) (omega arith)
 
--- src/lib.rt:27:18
 put-requires : tie.Need-put-requires
 put-requires c κs = search needs
 
--- src/lib.rt:20:1
 same-length : tie.Need-same-length
 same-length c = search needs
 
--- src/lib.rt:20:1
 returns-2 : tie.Need-returns-2
 returns-2 c =
     let start = c .before .before .before .before .before .before .before in

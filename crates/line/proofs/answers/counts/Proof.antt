@@ -1,42 +1,32 @@
+-- `counts` meets its contract: three fields, one behind another. Assumes nothing.
 use native.Mathlib.Omega.{arith}
 use Rattle.line.specs.Text.{countsText}
 use Rattle.line.proofs.Puts.{put-put}
 use borrow.Author.Needs.{needs}
 use Rattle.line.proofs.answers.counts.Statement.{statement}
 use Rattle.line.proofs.answers.counts.Tie as tie
-use Rattle.line.proofs.answers.counts.Reads as reads
-use Rattle.line.proofs.answers.counts.Lts as lts
-use Rattle.line.proofs.text.field.Reads as field-reads
 
--- src/answers.rt:57:28
 slice-aggregate-field : tie.Need-slice-aggregate-field
 slice-aggregate-field c = search needs
 
--- src/answers.rt:57:9
 field-requires : tie.Need-field-requires
 field-requires c κs = search needs
 
--- src/answers.rt:58:27
 slice-aggregate-field-2 : tie.Need-slice-aggregate-field-2
 slice-aggregate-field-2 c = search needs
 
--- src/answers.rt:58:9
 field-requires-2 : tie.Need-field-requires-2
 field-requires-2 c κs = search needs
 
--- src/answers.rt:59:19
 slice-aggregate-field-3 : tie.Need-slice-aggregate-field-3
 slice-aggregate-field-3 c = search needs
 
--- src/answers.rt:59:5
 field-requires-3 : tie.Need-field-requires-3
 field-requires-3 c κs = search needs
 
--- src/answers.rt:52:1
 same-length : tie.Need-same-length
 same-length c = search needs
 
--- src/answers.rt:52:1
 returns : tie.Need-returns
 unfolding countsText
 returns c =

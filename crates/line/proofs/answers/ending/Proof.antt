@@ -1,38 +1,29 @@
+-- `ending` meets its contract: the word, the name and the line feed, one behind another. Assumes nothing.
 use native.Mathlib.Omega.{arith}
 use Rattle.line.specs.Text.{nameText}
 use Rattle.line.proofs.Puts.{put-put}
 use borrow.Author.Needs.{needs}
 use Rattle.line.proofs.answers.ending.Statement.{statement}
 use Rattle.line.proofs.answers.ending.Tie as tie
-use Rattle.line.proofs.answers.ending.Reads as reads
-use Rattle.line.proofs.answers.ending.Lts as lts
-use Rattle.line.proofs.text.put.Reads as put-reads
 
--- src/answers.rt:67:26
 slice-aggregate-put : tie.Need-slice-aggregate-put
 slice-aggregate-put c = search needs
 
--- src/answers.rt:67:9
 put-requires : tie.Need-put-requires
 put-requires c κs = search needs
 
--- src/answers.rt:68:9
 put-requires-2 : tie.Need-put-requires-2
 put-requires-2 c κs = search needs
 
--- src/answers.rt:69:17
 slice-aggregate-put-2 : tie.Need-slice-aggregate-put-2
 slice-aggregate-put-2 c = search needs
 
--- src/answers.rt:69:5
 put-requires-3 : tie.Need-put-requires-3
 put-requires-3 c κs = search needs
 
--- src/answers.rt:63:1
 same-length : tie.Need-same-length
 same-length c = search needs
 
--- src/answers.rt:63:1
 returns : tie.Need-returns
 unfolding nameText
 returns c =

@@ -1,58 +1,46 @@
+-- `kinds` meets its contract: the letters of both events behind the word. Assumes nothing.
 use native.Mathlib.Omega.{arith}
 use Rattle.line.specs.Text.{kindsText}
 use Rattle.line.proofs.Puts.{put-put}
 use borrow.Author.Needs.{needs}
 use Rattle.line.proofs.answers.kinds.Statement.{statement}
 use Rattle.line.proofs.answers.kinds.Tie as tie
-use Rattle.line.proofs.answers.kinds.Reads as reads
-use Rattle.line.proofs.answers.kinds.Lts as lts
-use Rattle.jobfile.proofs.event_at.Reads as event-at-reads
-use Rattle.line.proofs.answers.letter.Reads as letter-reads
-use Rattle.line.proofs.text.put.Reads as put-reads
 
--- src/answers.rt:45:20
 event-at-requires : tie.Need-event-at-requires
 event-at-requires c κs = search needs
 
--- src/answers.rt:45:9
 letter-requires : tie.Need-letter-requires
 letter-requires c κs = search needs
 
--- src/answers.rt:46:20
 event-at-requires-2 : tie.Need-event-at-requires-2
 event-at-requires-2 c κs = search needs
 
--- src/answers.rt:46:9
 letter-requires-2 : tie.Need-letter-requires-2
 letter-requires-2 c κs = search needs
 
--- src/answers.rt:47:29
 slice-aggregate-put : tie.Need-slice-aggregate-put
 slice-aggregate-put c = search needs
 
--- src/answers.rt:47:9
 put-requires : tie.Need-put-requires
 put-requires c κs = search needs
 
--- src/answers.rt:48:20
 slice-aggregate-put-2 : tie.Need-slice-aggregate-put-2
 slice-aggregate-put-2 c = search needs
 
--- src/answers.rt:48:5
 put-requires-2 : tie.Need-put-requires-2
 put-requires-2 c κs = search needs
 
--- src/answers.rt:39:1
 same-length : tie.Need-same-length
 same-length c = search needs
 
--- src/answers.rt:39:1
 returns : tie.Need-returns
 unfolding kindsText
 returns c =
-    let d = c .before .before .before .before .before .before .before .before .before .before in
-    (put-put (c .before .before .before .before .before .before .before .put .ensures)
-    (rw (d .before .before .letter .ensures, d .before .before .before .event-at .ensures, d .letter2 .ensures, d .before .event-at2 .ensures) at (c .before .before .put2 .ensures)), omega arith)
+    let d = c .before .before .before .before .before .before .before .before .before .before in (
+      put-put (c .before .before .before .before .before .before .before .put .ensures)
+          (rw (d .before .before .letter .ensures, d .before .before .before .event-at .ensures, d .letter2 .ensures, d .before .event-at2 .ensures) at (c .before .before .put2 .ensures)),
+      omega arith,
+    )
 
 pub kinds-spec : {M : Type 1} → statement M
 kinds-spec =

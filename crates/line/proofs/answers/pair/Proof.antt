@@ -1,42 +1,32 @@
+-- `pair` meets its contract: three fields, one behind another. Assumes nothing.
 use native.Mathlib.Omega.{arith}
 use Rattle.line.specs.Text.{pairText}
 use Rattle.line.proofs.Puts.{put-put}
 use borrow.Author.Needs.{needs}
 use Rattle.line.proofs.answers.pair.Statement.{statement}
 use Rattle.line.proofs.answers.pair.Tie as tie
-use Rattle.line.proofs.answers.pair.Reads as reads
-use Rattle.line.proofs.answers.pair.Lts as lts
-use Rattle.line.proofs.text.field.Reads as field-reads
 
--- src/answers.rt:33:27
 slice-aggregate-field : tie.Need-slice-aggregate-field
 slice-aggregate-field c = search needs
 
--- src/answers.rt:33:9
 field-requires : tie.Need-field-requires
 field-requires c κs = search needs
 
--- src/answers.rt:34:27
 slice-aggregate-field-2 : tie.Need-slice-aggregate-field-2
 slice-aggregate-field-2 c = search needs
 
--- src/answers.rt:34:9
 field-requires-2 : tie.Need-field-requires-2
 field-requires-2 c κs = search needs
 
--- src/answers.rt:35:19
 slice-aggregate-field-3 : tie.Need-slice-aggregate-field-3
 slice-aggregate-field-3 c = search needs
 
--- src/answers.rt:35:5
 field-requires-3 : tie.Need-field-requires-3
 field-requires-3 c κs = search needs
 
--- src/answers.rt:28:1
 same-length : tie.Need-same-length
 same-length c = search needs
 
--- src/answers.rt:28:1
 returns : tie.Need-returns
 unfolding pairText
 returns c =

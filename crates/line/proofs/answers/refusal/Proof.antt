@@ -1,47 +1,35 @@
+-- `refusal` meets its contract: two fields and the line feed, one behind another. Assumes nothing.
 use native.Mathlib.Omega.{arith}
 use Rattle.line.specs.Text.{refusalText}
 use Rattle.line.proofs.Puts.{put-put}
 use borrow.Author.Needs.{needs}
 use Rattle.line.proofs.answers.refusal.Statement.{statement}
 use Rattle.line.proofs.answers.refusal.Tie as tie
-use Rattle.line.proofs.answers.refusal.Reads as reads
-use Rattle.line.proofs.answers.refusal.Lts as lts
-use Rattle.line.proofs.text.field.Reads as field-reads
-use Rattle.line.proofs.text.put.Reads as put-reads
 
--- src/answers.rt:77:27
 slice-aggregate-field : tie.Need-slice-aggregate-field
 slice-aggregate-field c = search needs
 
--- src/answers.rt:77:40
 cast-field : tie.Need-cast-field
 cast-field c = search needs
 
--- src/answers.rt:77:9
 field-requires : tie.Need-field-requires
 field-requires c κs = search needs
 
--- src/answers.rt:78:27
 slice-aggregate-field-2 : tie.Need-slice-aggregate-field-2
 slice-aggregate-field-2 c = search needs
 
--- src/answers.rt:78:9
 field-requires-2 : tie.Need-field-requires-2
 field-requires-2 c κs = search needs
 
--- src/answers.rt:79:17
 slice-aggregate-put : tie.Need-slice-aggregate-put
 slice-aggregate-put c = search needs
 
--- src/answers.rt:79:5
 put-requires : tie.Need-put-requires
 put-requires c κs = search needs
 
--- src/answers.rt:73:1
 same-length : tie.Need-same-length
 same-length c = search needs
 
--- src/answers.rt:73:1
 returns : tie.Need-returns
 unfolding refusalText
 returns c =

@@ -1,3 +1,4 @@
+-- `number` meets its contract: `io::decimal` gives the fewest digits, which are the number's without leading zeros, at most 20. Assumes nothing.
 use Prim.Native.Nat.{_≤_}
 use mathlib.Core.Path.{_∙_}
 use lib.ListN.{length, take}
@@ -11,7 +12,6 @@ use Rattle.line.proofs.text.number.Lts as lts
 use Rattle.io.proofs.decimal.Reads as decimal-reads
 use Rattle.line.proofs.text.put.Reads as put-reads
 
--- src/text.rt:30:9
 decimal-requires : tie.Need-decimal-requires
 decimal-requires c κs = search needs
 
@@ -22,25 +22,20 @@ digits-few c =
     let few = at-most-20 (c .decimal .result) (c .before .before .before .args .n) (omega arith) (c .decimal .ensures .1 .0) in
     (few, omega (arith, c .decimal .ensures .0 .1))
 
--- src/text.rt:31:18
 array-share-prefix-digits : tie.Need-array-share-prefix-digits
 array-share-prefix-digits c = search needs
 
--- src/text.rt:31:18
 slice-aggregate-put : tie.Need-slice-aggregate-put
 slice-aggregate-put c = search needs
 
--- src/text.rt:31:5
 put-requires : tie.Need-put-requires
 put-requires c κs =
     let few = digits-few (c .before .before) in
     omega arith
 
--- src/text.rt:24:1
 same-length : tie.Need-same-length
 same-length c = search needs
 
--- src/text.rt:24:1
 returns : tie.Need-returns
 returns c =
     let d = c .before .before .before .before .before in

@@ -1,3 +1,4 @@
+-- `put` meets its contract. The loop's invariant: the buffer is the entry's with the first i bytes copied in, and as long. Assumes nothing.
 use Prim.Native.Nat.{_-_, _≤_}
 use native.Mathlib.Omega.{arith}
 use mathlib.Core.Path.{_≡_, refl}
@@ -7,8 +8,6 @@ use borrow.Author.Needs.{needs}
 use Rattle.line.proofs.Puts.{copy-more, copied}
 use Rattle.line.proofs.text.put.Statement.{statement}
 use Rattle.line.proofs.text.put.Tie as tie
-use Rattle.line.proofs.text.put.Reads as reads
-use Rattle.line.proofs.text.put.Lts as lts
 
 abbrev Inv-loop : tie.InvT-loop
 Inv-loop out₀ at bytes i₀ out i = (i ≤ length bytes) × (length out ≡ length out₀) × (out ≡ paste out₀ at bytes i)
@@ -16,48 +15,38 @@ Inv-loop out₀ at bytes i₀ out i = (i ≤ length bytes) × (length out ≡ le
 abbrev μ-loop : tie.MeasureT-loop
 μ-loop out₀ at bytes i₀ out i = length bytes - i
 
--- src/text.rt:15:5
 loop-holds : tie.Need-loop-holds Inv-loop μ-loop
 loop-holds c = (omega arith, refl, paste-zero (c .args .out .now) (c .args .at) (c .args .bytes .now))
 
--- src/text.rt:16:23
 shared-slice-read-out : tie.Need-shared-slice-read-out Inv-loop μ-loop
 shared-slice-read-out c = omega arith
 
--- src/text.rt:16:13
 add-out : tie.Need-add-out Inv-loop μ-loop
 add-out c = omega arith
 
--- src/text.rt:16:9
 slice-write-out : tie.Need-slice-write-out Inv-loop μ-loop
 slice-write-out c = omega arith
 
--- src/text.rt:17:9
 add-i : tie.Need-add-i Inv-loop μ-loop
 add-i c = omega arith
 
--- src/text.rt:15:5
 loop-less : tie.Need-loop-less Inv-loop μ-loop
 loop-less c = omega arith
 
--- src/text.rt:15:5
 loop-again : tie.Need-loop-again Inv-loop μ-loop
 loop-again c = (
   omega arith,
   search needs,
   copy-more (c .before .before .before .args .out .now) (c .before .before .before .args .at) (c .before .before .before .args .bytes .now)
-  (c .before .before .loop .out) (c .before .before .loop .i) (c .before .before .loop .inv .2) (omega arith) (omega arith),
+      (c .before .before .loop .out) (c .before .before .loop .i) (c .before .before .loop .inv .2) (omega arith) (omega arith),
 )
 
--- src/text.rt:19:5
 add-result : tie.Need-add-result Inv-loop μ-loop
 add-result c = omega arith
 
--- src/text.rt:10:1
 same-length : tie.Need-same-length Inv-loop μ-loop
 same-length c = omega arith
 
--- src/text.rt:10:1
 returns : tie.Need-returns Inv-loop μ-loop
 returns c =
     copied (c .before .before .args .out .now) (c .before .before .args .at) (c .before .before .args .bytes .now) (c .before .loop .out)
