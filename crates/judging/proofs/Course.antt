@@ -2,27 +2,24 @@
 use mathlib.Core.Path.{_≡_, refl, sym, ap, _∙_}
 use mathlib.Core.List.{List}
 use mathlib.Core.Option.{none}
-use Prim.Native.Nat.{ℕ, suc, _+_, _*_, _-_, _≤_, _<_}
+use Prim.Native.Nat.{ℕ, suc, _-_, _≤_, _<_}
 use native.Mathlib.Omega.{arith}
-use lib.ListN.{length, getD}
-use Rattle.jobfile.specs.Trace.{eventAt, depthAt, begunAt}
-use Rattle.jobfile.specs.Accepted.{AcceptedTrace, RecordBelow}
+use lib.ListN.{length}
+use Rattle.jobfile.specs.Trace.{eventAt}
+use Rattle.jobfile.specs.Accepted.{RecordBelow}
 use Rattle.jobfile.specs.declared.coding.Event.{Event}
-use Rattle.jobfile.specs.declared.coding.Event.the-variants.{Read, Write}
 use Rattle.relation.specs.Parallel.{Rooted}
-use Rattle.relation.specs.Strand.{strandAt}
 use Rattle.relation.proofs.Strand.{begun-some}
 use Rattle.strands.specs.Standing.{Standing, Takes, Ready, Advanced}
-use Rattle.strands.specs.States.{englishCount, hebrewCount}
 use Rattle.strands.specs.declared.Now.{Now}
 use Rattle.strands.proofs.States.{tells}
 use Rattle.races.specs.Race.{other, accessOf, recordOf, secondIn}
 use Rattle.races.specs.Verdict.{Verdict, clean, race, verdict, stopAt}
-use Rattle.races.specs.Shown.{Shown, Judgeable, Judged, Askable, Answers, eventOr, strandOr}
+use Rattle.races.specs.Shown.{Shown, Judgeable, Judged, Askable, Answers}
 use Rattle.races.specs.declared.Met.{Met}
 use Rattle.races.specs.declared.Met.the-variants.{First, Nothing}
 use Rattle.races.proofs.Found.{none-yet}
-use Rattle.races.proofs.Places.{other-keeps}
+use Rattle.races.proofs.Shown.{other-shown}
 use Rattle.races.proofs.Verdict.{other-clean, clean-all}
 use Rattle.judging.specs.declared.Answer.the-variants.{Clean, Race}
 use Rattle.judging.specs.declared.Turn.the-variants.{Go, Raced}
@@ -35,17 +32,7 @@ module _ (ev : ℕ → Event) (n records : ℕ) (P₀ P L : List ℕ) (e : Event
   pub meets-nothing : accessOf e ≡ other → Judged ev n records P₀ P P (recordOf e) Nothing
   meets-nothing a =
       let z : accessOf (ev n) ≡ other = ap accessOf (M .event) ∙ a in
-      let S = M .shown in (
-        λ quiet. other-clean ev n quiet z,
-        record {
-          write = λ r h. S .write r h ∙ ap eventOr (sym (other-keeps ev r n z .same-write));
-          write-strand = λ r h. S .write-strand r h ∙ ap (strandOr ev) (sym (other-keeps ev r n z .same-write));
-          read = λ r h. S .read r h ∙ ap eventOr (sym (other-keeps ev r n z .same-read));
-          read-strand = λ r h. S .read-strand r h ∙ ap (strandOr ev) (sym (other-keeps ev r n z .same-read));
-          others = S .others;
-          size = S .size;
-        },
-      )
+      (λ quiet. other-clean ev n quiet z, other-shown ev n records P₀ P z (M .shown))
 
   -- an access may be judged
   pub access-judgeable : (r : ℕ) → r < records → Judgeable ev n records P₀ P L e r at strand

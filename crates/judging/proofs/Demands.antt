@@ -1,41 +1,36 @@
 -- The demands, for every file that judging takes. Assumes nothing.
-use mathlib.Core.Path.{_≡_, refl, sym, ap, _∙_, subst}
-use mathlib.Core.Bool.{Bool, true, false, cond}
-use mathlib.Core.List.{List, reverse}
+use mathlib.Core.Path.{_≡_, refl, sym, ap, _∙_}
+use mathlib.Core.List.{List}
 use mathlib.Core.Option.{Option, none, some, Option·getD}
-use Prim.Native.Nat.{ℕ, zero, suc, _+_, _*_, _-_, _/_, _^_, _≤_, _<_}
+use Prim.Native.Nat.{ℕ, zero, suc, _+_, _-_, _≤_, _<_}
 use native.Mathlib.Omega.{arith}
 use lib.ListN.{length, getD}
-use lib.Dec.{eqb, ltb}
 use borrow.Author.Tests.{le-ltb, eq-eqb}
-use Rattle.jobfile.specs.Trace.{eventAt, begunAt}
-use Rattle.jobfile.specs.File.{checkOf, eventPart, eventsFrom}
+use Rattle.jobfile.specs.Trace.{begunAt}
+use Rattle.jobfile.specs.File.{eventPart}
 use Rattle.jobfile.specs.Accepted.{AcceptedTrace}
 use Rattle.jobfile.specs.declared.coding.Event.{Event}
-use Rattle.jobfile.specs.declared.Job.{Job}
-use Rattle.jobfile.specs.declared.Checked.the-variants.{Accepted}
 use Rattle.jobfile.proofs.Whole.{accepted-part}
 use Rattle.relation.specs.Parallel.{Rooted}
 use Rattle.relation.specs.Strand.{strandAt}
-use Rattle.orders.specs.Lists.{All, Pairs}
-use Rattle.orders.specs.Order.{Order, labelIn, differ}
-use Rattle.orders.specs.Model.{State, Holds, insertState, insertCount, diffs, lastOf}
+use Rattle.orders.specs.Lists.{Pairs}
+use Rattle.orders.specs.Order.{labelIn, differ}
+use Rattle.orders.specs.Model.{State, Holds, insertState, insertCount, diffs}
 use Rattle.orders.proofs.Entries.{forwards, forwards-end, backwards, backwards-end}
 use Rattle.orders.proofs.Labels.{labels-rise}
 use Rattle.strands.specs.Cells.{pointAt}
-use Rattle.strands.specs.Orders.{Ahead, hebrewAt, englishAt, behindLast}
+use Rattle.strands.specs.Orders.{hebrewAt, behindLast}
 use Rattle.strands.specs.States.{grow, counted, stateAt, countAt, lastPoint, englishState, hebrewState, englishCount, hebrewCount}
 use Rattle.strands.proofs.Cells.{oneAt, begun-next}
 use Rattle.strands.proofs.Lists.{pairs-map}
 use Rattle.strands.proofs.Orders.{upTo, english-order}
 use Rattle.strands.proofs.Hebrew.{hebrew-order}
-use Rattle.strands.proofs.States.{english-size, hebrew-size, english-state-order, hebrew-state-order, english-good, hebrew-good}
+use Rattle.strands.proofs.States.{english-size, hebrew-size, english-state-order, hebrew-state-order}
 use Rattle.strands.proofs.Bound.{english-bound, hebrew-bound}
-use Rattle.races.specs.Race.{Race as IsRace, secondIn}
-use Rattle.races.specs.Verdict.{Verdict, clean, race, verdictOf, verdict, stopAt, Named}
+use Rattle.races.specs.Race.{secondIn}
+use Rattle.races.specs.Verdict.{Verdict, clean, race, verdictOf, verdict, stopAt}
 use Rattle.races.proofs.Named.{verdict-race, verdict-clean, named-only}
-use Rattle.judging.specs.declared.Answer.{Answer}
-use Rattle.judging.specs.declared.Answer.the-variants.{Clean, Race, Refused}
+use Rattle.judging.specs.declared.Answer.the-variants.{Clean, Race}
 use Rattle.judging.specs.Answers.{answerWith, judgedOf, judgeFault, judgeOf}
 use Rattle.judging.specs.Buffers.{Shows}
 use Rattle.judging.proofs.Room.{room}

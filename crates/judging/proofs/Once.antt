@@ -1,6 +1,6 @@
 -- No second answer and no second contents fit the contract of `judge`. Assumes nothing.
 use mathlib.Core.Path.{_≡_, refl, sym, _∙_, subst}
-use mathlib.Core.Logic.{_≢_, _⊎_, inl, inr}
+use mathlib.Core.Logic.{_≢_}
 use mathlib.Core.Bool.{Bool, true, false, cond}
 use mathlib.Core.List.{List}
 use mathlib.Core.Option.{Option, none, some, Option·getD}
@@ -20,7 +20,6 @@ use Rattle.jobfile.specs.declared.Checked.{Checked}
 use Rattle.jobfile.specs.declared.Checked.the-variants.{Accepted, Refused as Unread}
 use Rattle.jobfile.specs.declared.coding.Event.{Event}
 use Rattle.relation.specs.Parallel.{Rooted}
-use Rattle.orders.specs.Order.{labelIn, nextIn, backIn}
 use Rattle.orders.specs.Model.{State, Holds}
 use Rattle.orders.proofs.Entries.{next-entry, back-entry}
 use Rattle.strands.specs.States.{englishState, hebrewState}

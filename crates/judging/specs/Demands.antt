@@ -16,7 +16,7 @@ use Rattle.strands.specs.Orders.{Ahead, hebrewAt}
 use Rattle.strands.specs.States.{englishState, hebrewState, englishCount, hebrewCount}
 use Rattle.strands.proofs.Orders.{upTo}
 use Rattle.races.specs.Race.{Race as IsRace}
-use Rattle.races.specs.Verdict.{Named, stopAt}
+use Rattle.races.specs.Verdict.{Named}
 use Rattle.judging.specs.declared.Answer.{Answer}
 use Rattle.judging.specs.declared.Answer.the-variants.{Clean, Race}
 use Rattle.judging.specs.Answers.{judgeOf}

@@ -2,16 +2,15 @@
 use mathlib.Core.Path.{_≡_}
 use mathlib.Core.Logic.{_≢_}
 use mathlib.Core.List.{List}
-use mathlib.Core.Bool.{Bool, false, cond}
 use mathlib.Core.Option.{Option, none, some}
 use Prim.Native.Nat.{ℕ, suc, _+_, _≤_, _<_}
 use lib.ListN.{length, getD}
-use lib.Dec.{eqb, ltb}
+use lib.Dec.{ltb}
 use Rattle.jobfile.specs.Trace.{begunAt}
 use Rattle.jobfile.specs.declared.coding.Event.{Event}
 use Rattle.relation.specs.Walk.{par}
 use Rattle.relation.specs.Strand.{strandAt}
-use Rattle.races.specs.Race.{recordOf, secondIn}
+use Rattle.races.specs.Race.{secondIn}
 use Rattle.races.specs.Places.{lastWrite, standing}
 use Rattle.races.specs.Verdict.{race, verdict, stopAt}
 use Rattle.races.specs.declared.Met.{Met}

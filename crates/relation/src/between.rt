@@ -1,8 +1,7 @@
 // The walk over the events between two, which decides whether the first is parallel to the second.
 ghost use mathlib.Core.Path.{_≡_};
 ghost use mathlib.Core.Bool.{true};
-ghost use Prim.Native.Nat.{_+_, _*_, _≤_, _<_};
-ghost use lib.ListN.{length};
+ghost use Prim.Native.Nat.{_+_, _≤_, _<_};
 ghost use Rattle.jobfile.specs.Trace.{eventAt};
 ghost use Rattle.relation.specs.Walk.{moveOf, move, par};
 ghost use Rattle.relation.specs.Between.{walkerOf, Walkable};

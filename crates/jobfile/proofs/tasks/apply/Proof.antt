@@ -1,5 +1,4 @@
 -- `jobfile::tasks::apply` meets its contract: each arm hands on what the function for that kind of event ensures. Assumes nothing.
-use Rattle.jobfile.specs.Trace.{tasksNext}
 use Rattle.jobfile.specs.Tasks.{stepOn, taskFault}
 use borrow.Author.Needs.{needs}
 use Rattle.jobfile.proofs.tasks.apply.Statement.{statement}

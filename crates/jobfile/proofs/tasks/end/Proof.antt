@@ -1,6 +1,5 @@
 -- `jobfile::tasks::end` meets its contract: at each return the tests that led there say which way the end goes. Assumes nothing.
 use mathlib.Core.Path.{sym}
-use native.Mathlib.Omega.{arith}
 use Rattle.jobfile.proofs.Flags.{end-root, end-full, end-on}
 use borrow.Author.Needs.{needs}
 use Rattle.jobfile.proofs.tasks.end.Statement.{statement}

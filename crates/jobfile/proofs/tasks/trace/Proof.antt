@@ -3,7 +3,7 @@
 use borrow.Author.Needs.{needs}
 use native.Mathlib.Omega.{arith}
 use Prim.Native.Nat.{_-_}
-use mathlib.Core.Path.{_≡_, refl, sym, ap, _∙_}
+use mathlib.Core.Path.{_≡_, refl, sym, _∙_}
 use Rattle.jobfile.specs.Tasks.{under}
 use Rattle.jobfile.proofs.Flags.{finish-open, finish-root}
 use Rattle.jobfile.proofs.Turns.{Turn, turn-unread, turn-stop, turn-on, turn-end}
