@@ -1,3 +1,4 @@
+-- `repeat` meets its contract. The loop's invariant: the place is within the events. Assumes nothing.
 use Prim.Native.Nat.{_-_, _≤_}
 use native.Mathlib.Omega.{arith}
 use mathlib.Core.Path.{_≡_, sym}
@@ -6,9 +7,6 @@ use lib.Seq.{length-take-le}
 use borrow.Author.Needs.{needs}
 use Rattle.cases.proofs.repeat.Statement.{statement}
 use Rattle.cases.proofs.repeat.Tie as tie
-use Rattle.cases.proofs.repeat.Reads as reads
-use Rattle.cases.proofs.repeat.Lts as lts
-use Rattle.cases.proofs.put_job.Reads as put-job-reads
 
 abbrev Inv-loop : tie.InvT-loop
 Inv-loop events₀ start times job at₀ i₀ events at i = (at ≤ length events) × (length events ≡ length events₀) × (i ≤ times)
@@ -16,31 +14,24 @@ Inv-loop events₀ start times job at₀ i₀ events at i = (at ≤ length event
 abbrev μ-loop : tie.MeasureT-loop
 μ-loop events₀ start times job at₀ i₀ events at i = times - i
 
--- src/main.rt:91:5
 loop-holds : tie.Need-loop-holds Inv-loop μ-loop
 loop-holds c = search needs
 
--- src/main.rt:92:9
 put-job-requires : tie.Need-put-job-requires Inv-loop μ-loop
 put-job-requires c κs = search needs
 
--- src/main.rt:93:9
 add-i : tie.Need-add-i Inv-loop μ-loop
 add-i c = search needs
 
--- src/main.rt:91:5
 loop-less : tie.Need-loop-less Inv-loop μ-loop
 loop-less c = search needs
 
--- src/main.rt:91:5
 loop-again : tie.Need-loop-again Inv-loop μ-loop
 loop-again c = search needs
 
--- src/main.rt:85:1
 same-length : tie.Need-same-length Inv-loop μ-loop
 same-length c = search needs
 
--- src/main.rt:85:1
 returns : tie.Need-returns Inv-loop μ-loop
 returns c = (omega arith, sym (length-take-le (c .before .loop .at) (c .before .loop .events) (omega arith)))
 
