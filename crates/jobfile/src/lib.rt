@@ -15,6 +15,7 @@ pub use refusal::Refusal;
 pub use refusal::refuse;
 pub use tasks::Traced;
 pub use tasks::trace;
+pub use trailer::MARK;
 pub use trailer::printable;
 ghost use mathlib.Core.Path.{_≡_};
 ghost use Prim.Native.Nat.{_*_};
