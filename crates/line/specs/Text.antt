@@ -17,14 +17,15 @@ abbrev pub ascii : String → List ℕ
 ascii empty = []
 ascii (c then s) = code c ∷ ascii s
 
--- a number in decimal, without leading zeros: a number below 10 is one digit, any other is that of its tenth and one digit more.
--- `most` digits at most; a number has fewer digits than one more than itself.
+-- a number in decimal, without leading zeros: one below 10 is one digit, any other has the digits of its tenth and one more.
+-- `most` only bounds the recursion.
 unfoldable pub digitsWithin : ℕ → ℕ → List ℕ
 digitsWithin zero n = []
 digitsWithin (suc most) n = cond (ltb n 10) ((48 + n) ∷ []) (digitsWithin most (n / 10) ++ ((48 + n % 10) ∷ []))
 
+-- a number of 64 bits is below 10^20
 abbrev pub digitsOf : ℕ → List ℕ
-digitsOf n = digitsWithin (suc n) n
+digitsOf n = digitsWithin 20 n
 
 -- "the kinds of both accesses": R or W; an event that is no access, which no race names, stands as R
 abbrev pub letterOf : Event → ℕ
@@ -54,7 +55,8 @@ nameText name = ascii " name " ++ (name ++ ascii "\n")
 abbrev pub cleanText : ℕ → ℕ → ℕ → List ℕ → List ℕ
 cleanText strands english hebrew name = ascii "clean" ++ (countsText strands english hebrew ++ nameText name)
 
--- "Fields: record, the two event numbers, the kinds of both accesses, strands, the two label counts, the name to the line's end"
+-- "Fields: record, the two event numbers, the kinds of both accesses, strands, the two label counts, the name to the line's end":
+-- `race record R first I second J kinds XY strands S english A hebrew B name N`
 abbrev pub raceText : ℕ → ℕ → ℕ → ℕ → ℕ → ℕ → List ℕ → List ℕ → List ℕ
 raceText first second number strands english hebrew events name =
     pairText number first second ++ (kindsText (eventAt events first) (eventAt events second) ++ (countsText strands english hebrew ++ nameText name))

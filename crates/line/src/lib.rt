@@ -1,7 +1,7 @@
 // The one line that the program prints: its bytes, in the caller's output.
 //
-// Every input is dealt with, and every byte of the line is determined by the input's bytes. No
-// public entry point has a `requires`.
+// Every input is dealt with. The input's bytes and the lengths of the work buffers determine every
+// byte of the line. No public entry point has a `requires`.
 mod answers;
 mod text;
 

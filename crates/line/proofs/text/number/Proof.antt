@@ -39,7 +39,7 @@ same-length c = search needs
 returns : tie.Need-returns
 returns c =
     let d = c .before .before .before .before .before in
-    (rw (d .decimal .ensures .1 .1 ∙ fewest-are-digits (d .decimal .result) (d .before .before .before .args .n) (d .decimal .ensures .1 .0)) at (c .before .before .put .ensures), omega (arith, digits-few d))
+    (rw (d .decimal .ensures .1 .1 ∙ fewest-are-digits (d .decimal .result) (d .before .before .before .args .n) (omega arith) (d .decimal .ensures .1 .0)) at (c .before .before .put .ensures), omega (arith, digits-few d))
 
 pub number-spec : {M : Type 1} → statement M
 number-spec =
