@@ -1,7 +1,7 @@
-pub mod Cases
 pub mod Tests
 pub mod Head
 pub mod Flags
 pub mod Turns
 pub mod Whole
 pub mod Accepted
+pub mod Cases

@@ -19,13 +19,13 @@ use Rattle.orders.specs.Model.{State, Holds, insertState, insertCount, diffs}
 use Rattle.orders.proofs.Entries.{forwards, forwards-end, backwards, backwards-end}
 use Rattle.orders.proofs.Labels.{labels-rise}
 use Rattle.strands.specs.Cells.{pointAt}
-use Rattle.strands.specs.Orders.{hebrewAt, behindLast}
+use Rattle.strands.specs.Orders.{upTo, hebrewAt}
 use Rattle.strands.specs.States.{grow, counted, stateAt, countAt, lastPoint, englishState, hebrewState, englishCount, hebrewCount}
 use Rattle.strands.proofs.Cells.{oneAt, begun-next}
 use Rattle.strands.proofs.Lists.{pairs-map}
-use Rattle.strands.proofs.Orders.{upTo, english-order}
+use Rattle.strands.proofs.Orders.{english-order}
 use Rattle.strands.proofs.Hebrew.{hebrew-order}
-use Rattle.strands.proofs.States.{english-size, hebrew-size, english-state-order, hebrew-state-order}
+use Rattle.strands.proofs.States.{behind-one, english-size, hebrew-size, english-state-order, hebrew-state-order}
 use Rattle.strands.proofs.Bound.{english-bound, hebrew-bound}
 use Rattle.races.specs.Race.{secondIn}
 use Rattle.races.specs.Verdict.{Verdict, clean, race, verdictOf, verdict, stopAt}
@@ -140,16 +140,12 @@ unfolding insertCount insertState
 grown-count none b m st e = sym (rw (diffs-same b (st .lab)) (omega arith))
 grown-count (some a) b m st e = let z : m - b ≡ 1 = omega arith in rw z
 
-behind-one : (o : Option ℕ) (s : ℕ) → oneAt (behindLast o s) ≡ oneAt o
-behind-one none s = refl
-behind-one (some a) s = refl
-
 pub true-count : (ev : ℕ → Event) (n : ℕ) → Rooted ev (suc n) → TrueCount ev n
 unfolding countAt stateAt
 true-count ev n root =
     let e = begun-next ev n root in
     record {
       english = ap (λ (c : ℕ). englishCount ev n + c) (grown-count (lastPoint ev n) (begunAt ev n) (begunAt ev (suc n)) (englishState ev n)
-          (e ∙ ap (λ (c : ℕ). begunAt ev n + c) (sym (behind-one (pointAt ev n) (strandAt ev n)))));
+          (e ∙ ap (λ (c : ℕ). begunAt ev n + c) (behind-one (pointAt ev n) (strandAt ev n))));
       hebrew = ap (λ (c : ℕ). hebrewCount ev n + c) (grown-count (pointAt ev n) (begunAt ev n) (begunAt ev (suc n)) (hebrewState ev n) e);
     }

@@ -27,6 +27,7 @@ use Rattle.strands.proofs.States.{english-size, hebrew-size}
 use Rattle.races.specs.Race.{raced, secondIn}
 use Rattle.races.specs.Verdict.{stopAt}
 use Rattle.races.proofs.Search.{Least, least-is}
+use Rattle.races.proofs.Shown.{shown-unique}
 use Rattle.judging.specs.declared.Answer.{Answer}
 use Rattle.judging.specs.declared.Answer.the-variants.{Clean, Race, Refused}
 use Rattle.judging.specs.Answers.{judgedOf, noRoom, judgeFault, afterCheck, judgeOf}
@@ -107,18 +108,6 @@ module _ (ev : ℕ → Event) (n records : ℕ) (root : Rooted ev n) (L₀ K₀ 
       λ s h. (zero-less i s (f s h .0), f s h .1, f s h .2, f s h .3) in
       (S .untouched .links i g, S′ .untouched .links i g))
 
-  places-once : P ≡ P′
-  places-once =
-      four-blocks P P′ P₀ records (S .places .size) (S′ .places .size) 0 4096 8192 12288
-      (λ r h. let e : 0 + r ≡ r = omega arith in rw e (S .places .write r h ∙ sym (S′ .places .write r h)))
-      (λ r h. S .places .write-strand r h ∙ sym (S′ .places .write-strand r h))
-      (λ r h. S .places .read r h ∙ sym (S′ .places .read r h))
-      (λ r h. S .places .read-strand r h ∙ sym (S′ .places .read-strand r h))
-      (λ i f.
-      let g : (s : ℕ) → s < records → (i ≢ s) × (i ≢ 4096 + s) × (i ≢ 8192 + s) × (i ≢ 12288 + s) =
-      λ s h. (zero-less i s (f s h .0), f s h .1, f s h .2, f s h .3) in
-      (S .places .others i g, S′ .places .others i g))
-
 -- an answer that is no refusal
 abbrev Given : Answer → Type 0
 Given (Clean s e h) = Unit {0}
@@ -178,7 +167,7 @@ judged-once file k L₀ K₀ P₀ r r′ L K P L′ K′ P′ F F′ =
         let rs = recordCount (checkOf file) in (
           labels-once (eventAt (eventPart file)) n rs root L₀ K₀ P₀ L K P L′ K′ P′ S S′,
           links-once (eventAt (eventPart file)) n rs root L₀ K₀ P₀ L K P L′ K′ P′ S S′,
-          places-once (eventAt (eventPart file)) n rs root L₀ K₀ P₀ L K P L′ K′ P′ S S′,
+          shown-unique (eventAt (eventPart file)) n rs P₀ P P′ (S .places) (S′ .places),
         )
 
     by : (a : Answer) → a ≡ judgeOf file k (length L₀) (length K₀) (length P₀) → Leaves a file k L₀ K₀ P₀ L K P → Leaves a file k L₀ K₀ P₀ L′ K′ P′

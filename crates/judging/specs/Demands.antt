@@ -12,9 +12,8 @@ use Rattle.jobfile.specs.declared.Checked.the-variants.{Accepted}
 use Rattle.orders.specs.Lists.{Pairs}
 use Rattle.orders.specs.Order.{Order, labelIn, nextIn, backIn, orderOf, backOrderOf}
 use Rattle.orders.specs.Model.{lastOf, diffs}
-use Rattle.strands.specs.Orders.{Ahead, hebrewAt}
+use Rattle.strands.specs.Orders.{upTo, Ahead, hebrewAt}
 use Rattle.strands.specs.States.{englishState, hebrewState, englishCount, hebrewCount}
-use Rattle.strands.proofs.Orders.{upTo}
 use Rattle.races.specs.Race.{Race as IsRace}
 use Rattle.races.specs.Verdict.{Named}
 use Rattle.judging.specs.declared.Answer.{Answer}

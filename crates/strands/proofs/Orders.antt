@@ -16,7 +16,7 @@ use Rattle.relation.specs.Parallel.{Rooted}
 use Rattle.relation.specs.Strand.{strandAt}
 use Rattle.relation.proofs.Strand.{begun-some}
 use Rattle.strands.specs.Cells.{pointAt}
-use Rattle.strands.specs.Orders.{putBehind, behindLast, hebrewAt, englishAt}
+use Rattle.strands.specs.Orders.{upTo, putBehind, behindLast, hebrewAt, englishAt}
 use Rattle.strands.proofs.Lists.{all-append, insert-there}
 use Rattle.strands.proofs.Cells.{oneAt, BelowIf, begun-next, point-begun}
 
@@ -27,11 +27,6 @@ order-first = record { size = refl; below = (omega arith, tt); distinct = (tt, t
 order-next : (o : Option ℕ) (n : ℕ) (l : List ℕ) → BelowIf n o → Order n l → Order (n + oneAt o) (putBehind o n l)
 order-next none n l h O = rw add-zero O
 order-next (some a) n l h O = order-insert n a l O h
-
--- 0 to n - 1
-abbrev pub upTo : ℕ → List ℕ
-upTo zero = []
-upTo (suc n) = upTo n ++ (n ∷ [])
 
 pub up-to-below : (n : ℕ) → Below n (upTo n)
 up-to-below zero = tt

@@ -1,0 +1,9 @@
+-- No second answer and no second contents of the buffers fit the contract of `rz_judge`: judging has the theorem. Assumes nothing.
+use mathlib.Core.Path.{refl, sym, _∙_}
+use Rattle.judging.proofs.Once.{judged-once}
+use Rattle.exports.specs.Once.{JudgedOnce}
+
+pub rz-judged-once : JudgedOnce
+rz-judged-once file k L₀ K₀ P₀ A L K P A′ L′ K′ P′ a b =
+    let once = judged-once file k L₀ K₀ P₀ _ _ L K P L′ K′ P′ (record { answer = refl; leaves = a .leaves }) (record { answer = refl; leaves = b .leaves }) in
+    (a .numbers ∙ sym (b .numbers), once .1, once .2, once .3)

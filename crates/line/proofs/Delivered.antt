@@ -1,0 +1,25 @@
+-- A line that fits is at the start of the output; one that does not leaves it alone. Assumes nothing.
+use Prim.Native.Nat.{ℕ, _+_, _≤_, _<_}
+use native.Mathlib.Omega.{arith}
+use native.Mathlib.Nat.{zero-add}
+use mathlib.Core.Path.{_≡_, refl}
+use mathlib.Core.List.{List, _++_}
+use lib.ListN.{length, drop}
+use borrow.Author.Tests.{lt-ltb, le-ltb}
+use Rattle.io.specs.Counts.{Counts}
+use Rattle.line.specs.declared.Lined.the-variants.{Bytes, Short}
+use Rattle.line.specs.Put.{Put}
+use Rattle.line.specs.Line.{linedOf, outOf}
+use Rattle.line.proofs.Puts.{put-whole, put-counted}
+
+module _ (line out : List ℕ) where
+  pub too-short : length out < length line → length line ≤ 256 → (Short ≡ linedOf line (length out)) × ((out ≡ outOf line out) × (length out < 256))
+  unfolding linedOf outOf
+  too-short h l = rw (lt-ltb (length out) (length line)) (refl, (refl, omega arith))
+
+  pub delivered : (after : List ℕ) (n : ℕ) → length line ≤ length out → length after ≡ length out → Put out 0 line n after
+      → (Bytes n ≡ linedOf line (length out)) × ((after ≡ outOf line out) × Counts n after)
+  unfolding linedOf outOf
+  delivered after n h l p =
+      let whole : after ≡ line ++ drop (length line) out = rw zero-add at (put-whole p) in
+      rw (le-ltb (length out) (length line)) (rw (p .count, zero-add), (whole, (omega (arith, p .count), put-counted p)))

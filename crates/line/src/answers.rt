@@ -1,0 +1,154 @@
+// The line of each answer, from the start of a buffer. Each function answers where the next bytes go.
+ghost use mathlib.Core.Path.{_≡_};
+ghost use Prim.Native.Nat.{_+_, _*_, _≤_};
+ghost use lib.ListN.{length};
+ghost use Rattle.jobfile.specs.Trace.{eventAt};
+ghost use Rattle.line.specs.Text.{letterOf, pairText, kindsText, countsText, nameText, cleanText, raceText, refusalText, answerText, PairWithin};
+ghost use Rattle.line.specs.Put.{Put};
+use crate::text::field;
+use crate::text::put;
+use jobfile::Event;
+use jobfile::Refusal;
+use judging::Answer;
+
+fn letter(e: Event) -> u8
+    ensures { λ r. ⌜ r ≡ letterOf e ⌝ }
+{
+    match e {
+        Event::Write(_) => b'W',
+        Event::Read(_) => b'R',
+        Event::Spawn => b'R',
+        Event::End => b'R',
+        Event::Sync => b'R',
+    }
+}
+
+// requires: there is room for three words and three numbers.
+fn pair(out: &mut [u8], number: usize, first: usize, second: usize) -> usize
+    requires { ⌜ 87 ≤ length (now out) ⌝ }
+    ensures { λ r. ⌜ Put (now (out .entry)) 0 (pairText number first second) r (now (out .exit)) ⌝ }
+    ensures { λ r. ⌜ r ≤ 87 ⌝ }
+{
+    let a = field(out, 0, b"race record ", number);
+    let b = field(out, a, b" first ", first);
+    field(out, b, b" second ", second)
+}
+
+// requires: there is room for the nine bytes, and both events are there.
+fn kinds(out: &mut [u8], at: usize, events: &[u8], first: usize, second: usize) -> usize
+    requires { ⌜ at + 9 ≤ length (now out) ⌝ }
+    requires { ⌜ 4 * first + 4 ≤ length (now events) ⌝ }
+    requires { ⌜ 4 * second + 4 ≤ length (now events) ⌝ }
+    ensures { λ r. ⌜ Put (now (out .entry)) at (kindsText (eventAt (now (events .entry)) first) (eventAt (now (events .entry)) second)) r (now (out .exit)) ⌝ }
+    ensures { λ r. ⌜ r ≤ at + 9 ⌝ }
+{
+    let x = letter(jobfile::event_at(events, first));
+    let y = letter(jobfile::event_at(events, second));
+    let next = put(out, at, b" kinds ");
+    put(out, next, &[x, y])
+}
+
+// requires: there is room for three words and three numbers.
+fn counts(out: &mut [u8], at: usize, strands: usize, english: usize, hebrew: usize) -> usize
+    requires { ⌜ at + 86 ≤ length (now out) ⌝ }
+    ensures { λ r. ⌜ Put (now (out .entry)) at (countsText strands english hebrew) r (now (out .exit)) ⌝ }
+    ensures { λ r. ⌜ r ≤ at + 86 ⌝ }
+{
+    let a = field(out, at, b" strands ", strands);
+    let b = field(out, a, b" english ", english);
+    field(out, b, b" hebrew ", hebrew)
+}
+
+// requires: there is room for the name and seven bytes more.
+fn ending(out: &mut [u8], at: usize, name: &[u8]) -> usize
+    requires { ⌜ at + length (now name) + 7 ≤ length (now out) ⌝ }
+    ensures { λ r. ⌜ Put (now (out .entry)) at (nameText (now (name .entry))) r (now (out .exit)) ⌝ }
+    ensures { λ r. ⌜ r ≤ at + length (now (name .entry)) + 7 ⌝ }
+{
+    let word = put(out, at, b" name ");
+    let named = put(out, word, name);
+    put(out, named, b"\n")
+}
+
+// requires: there is room for two words, two numbers and a line feed.
+fn refusal(out: &mut [u8], refused: Refusal) -> usize
+    requires { ⌜ 56 ≤ length (now out) ⌝ }
+    ensures { λ r. ⌜ Put (now (out .entry)) 0 (refusalText refused) r (now (out .exit)) ⌝ }
+    ensures { λ r. ⌜ r ≤ 56 ⌝ }
+{
+    let a = field(out, 0, b"refused ", refused.number as usize);
+    let b = field(out, a, b" event ", refused.event);
+    put(out, b, b"\n")
+}
+
+// requires: there is room for the name and 98 bytes more.
+fn clean(out: &mut [u8], strands: usize, english: usize, hebrew: usize, name: &[u8]) -> usize
+    requires { ⌜ length (now name) + 98 ≤ length (now out) ⌝ }
+    ensures { λ r. ⌜ Put (now (out .entry)) 0 (cleanText strands english hebrew (now (name .entry))) r (now (out .exit)) ⌝ }
+    ensures { λ r. ⌜ r ≤ length (now (name .entry)) + 98 ⌝ }
+{
+    let a = put(out, 0, b"clean");
+    let b = counts(out, a, strands, english, hebrew);
+    ending(out, b, name)
+}
+
+// requires: there is room for the name and 189 bytes more, and both events are there.
+fn race(
+    out: &mut [u8],
+    first: usize,
+    second: usize,
+    number: usize,
+    strands: usize,
+    english: usize,
+    hebrew: usize,
+    events: &[u8],
+    name: &[u8],
+) -> usize
+    requires { ⌜ length (now name) + 189 ≤ length (now out) ⌝ }
+    requires { ⌜ 4 * first + 4 ≤ length (now events) ⌝ }
+    requires { ⌜ 4 * second + 4 ≤ length (now events) ⌝ }
+    ensures { λ r. ⌜ Put (now (out .entry)) 0 (raceText first second number strands english hebrew (now (events .entry)) (now (name .entry))) r (now (out .exit)) ⌝ }
+    ensures { λ r. ⌜ r ≤ length (now (name .entry)) + 189 ⌝ }
+{
+    let a = pair(out, number, first, second);
+    let b = kinds(out, a, events, first, second);
+    let c = counts(out, b, strands, english, hebrew);
+    ending(out, c, name)
+}
+
+// The line of an answer, for the event part and the name of the file.
+// requires: there is room for the longest line, and both events of a pair are there.
+pub fn answer(out: &mut [u8], answer: Answer, events: &[u8], name: &[u8]) -> usize
+    requires { ⌜ 256 ≤ length (now out) ⌝ }
+    requires { ⌜ length (now name) ≤ 64 ⌝ }
+    requires { ⌜ PairWithin answer (length (now events)) ⌝ }
+    ensures { λ r. ⌜ Put (now (out .entry)) 0 (answerText answer (now (events .entry)) (now (name .entry))) r (now (out .exit)) ⌝ }
+    ensures { λ r. ⌜ r ≤ 256 ⌝ }
+{
+    match answer {
+        Answer::Clean {
+            strands,
+            english,
+            hebrew,
+        } => clean(out, strands, english, hebrew, name),
+        Answer::Race {
+            first,
+            second,
+            record,
+            strands,
+            english,
+            hebrew,
+        } => race(
+            out,
+            first,
+            second,
+            record,
+            strands,
+            english,
+            hebrew,
+            events,
+            name,
+        ),
+        Answer::Refused(r) => refusal(out, r),
+    }
+}
