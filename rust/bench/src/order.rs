@@ -53,3 +53,13 @@ impl<'a> Order<'a> {
         }
     }
 }
+
+/// An order alone, grown to 4,096 strands: strand j + 1 goes right behind strand (j * factor) % (j + 1). How many labels that
+/// set or changed.
+pub fn grow(labels: &mut [u64], links: &mut [u16], factor: u16) -> u64 {
+    let mut order = Order::root(labels, links);
+    for j in 0..STRANDS - 1 {
+        order.insert(j * usize::from(factor) % (j + 1), j + 1);
+    }
+    order.count
+}

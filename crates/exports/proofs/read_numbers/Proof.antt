@@ -3,7 +3,6 @@
 use borrow.Author.Needs.{needs}
 use native.Mathlib.Omega.{arith}
 use mathlib.Core.Path.{sym, ap}
-use Rattle.jobfile.specs.File.{eventCount}
 use Rattle.exports.specs.Numbers.{readNumbers}
 use Rattle.exports.proofs.read_numbers.Statement.{statement}
 use Rattle.exports.proofs.read_numbers.Tie as tie

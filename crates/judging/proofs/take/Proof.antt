@@ -4,12 +4,6 @@ use Rattle.judging.proofs.Course.{some-strands, turn-meets, turn-ready,
 use borrow.Author.Needs.{needs}
 use Rattle.judging.proofs.take.Statement.{statement}
 use Rattle.judging.proofs.take.Tie as tie
-use Rattle.judging.proofs.take.Reads as reads
-use Rattle.judging.proofs.take.Lts as lts
-use Rattle.jobfile.proofs.event_at.Reads as event-at-reads
-use Rattle.judging.proofs.meet.Reads as meet-reads
-use Rattle.judging.proofs.record_of.Reads as record-of-reads
-use Rattle.strands.proofs.advance.Reads as advance-reads
 
 event-at-requires : tie.Need-event-at-requires
 event-at-requires c κs = search needs

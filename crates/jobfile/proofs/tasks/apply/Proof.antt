@@ -3,12 +3,6 @@ use Rattle.jobfile.specs.Tasks.{stepOn, taskFault}
 use borrow.Author.Needs.{needs}
 use Rattle.jobfile.proofs.tasks.apply.Statement.{statement}
 use Rattle.jobfile.proofs.tasks.apply.Tie as tie
-use Rattle.jobfile.proofs.tasks.apply.Reads as reads
-use Rattle.jobfile.proofs.tasks.apply.Lts as lts
-use Rattle.jobfile.proofs.tasks.access.Reads as access-reads
-use Rattle.jobfile.proofs.tasks.end.Reads as end-reads
-use Rattle.jobfile.proofs.tasks.spawn.Reads as spawn-reads
-use Rattle.jobfile.proofs.tasks.sync.Reads as sync-reads
 
 enum-known-e : tie.Need-enum-known-e
 enum-known-e c = search needs
