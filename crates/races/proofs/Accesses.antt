@@ -5,10 +5,10 @@ use mathlib.Core.Logic.{_≢_}
 use mathlib.Core.List.{List}
 use mathlib.Core.Bool.{true, false}
 use mathlib.Core.Option.{Option, none, some}
-use Prim.Native.Nat.{ℕ, suc, _+_, _<_}
+use Prim.Native.Nat.{ℕ, suc, _+_, _≤_, _<_}
 use native.Mathlib.Omega.{arith}
 use lib.ListN.{length, getD}
-use borrow.Author.Tests.{ne-eqb}
+use borrow.Author.Tests.{lt-ltb, le-ltb}
 use Rattle.jobfile.specs.declared.coding.Event.{Event}
 use Rattle.jobfile.specs.declared.coding.Event.the-variants.{Read, Write}
 use Rattle.relation.specs.Strand.{strandAt}
@@ -19,7 +19,7 @@ use Rattle.races.specs.Verdict.{clean, race}
 use Rattle.races.specs.declared.Met.{Met}
 use Rattle.races.specs.declared.Met.the-variants.{First, Nothing}
 use Rattle.races.specs.Shown.{eventOr, strandOr, Judgeable, Judged, Askable, Answers}
-use Rattle.races.specs.Entries.{metIn, put, Place}
+use Rattle.races.specs.Entries.{heldOr, metIn, put, Place}
 use Rattle.races.proofs.Places.{holds-some, last-write-is, standing-read-is}
 use Rattle.races.proofs.Verdict.{clean-all, read-clean, write-clean, last-write-races, standing-read-races}
 use Rattle.races.proofs.Shown.{shown-unique, write-shown, read-shown, read-kept}
@@ -27,35 +27,25 @@ use Rattle.races.proofs.Shown.{shown-unique, write-shown, read-shown, r
 module _
     {ev : ℕ → Event} {n records : ℕ} {P₀ P L : List ℕ} {e : Event} {r at strand : ℕ}
     (J : Judgeable ev n records P₀ P L e r at strand) where
-  -- the strand of an earlier event has a label
-  labelled : (m : ℕ) → m < n → 4096 + strandAt ev m < length L
-  labelled m l = omega (arith, begun-some ev m, begun-rises ev m n (omega arith), J .few, J .labels-room)
+  -- the strand of an event has a label
+  labelled : (m : ℕ) → m ≤ n → strandAt ev m < 4096
+  labelled m l = omega (arith, begun-some ev m, begun-rises ev m n l, J .few)
 
   -- the place whose event is at p shows what o says, an earlier event if any
   record Shows (p : ℕ) (o : Option ℕ) : Type 0 where
     earlier : (m : ℕ) → o ≡ some m → m < n
-    event : getD P p 0 ≡ eventOr o
     its-strand : getD P (p + 4096) 0 ≡ strandOr ev o
 
   -- what asking it answers, and that it may be asked
   met-holds : (p : ℕ) (o : Option ℕ) → Shows p o → metIn L P p strand ≡ holds (parTo ev n) o
-  unfolding metIn
-  met-holds p none S = rw (S .event)
+  unfolding metIn heldOr
+  met-holds p none S = rw (S .its-strand) (le-ltb (getD L (4096 + strand) 0) (getD L (4096 + strand) 0) (omega arith))
   met-holds p (some m) S =
       let l : m < n = S .earlier m refl in
-      let d : m ≢ 4294967295 = omega (arith, J .number-fits) in
-      rw (S .event, S .its-strand, ne-eqb m 4294967295 d, J .strand-is) (J .tells m l)
+      rw (S .its-strand, lt-ltb (strandAt ev m) 4096 (labelled m (omega arith)), J .strand-is) (J .tells m l)
 
-  held-labelled : (p : ℕ) (o : Option ℕ) → Shows p o → getD P p 0 ≢ 4294967295 → 4096 + getD P (p + 4096) 0 < length L
-  held-labelled p none S d = absurd (d (S .event))
-  held-labelled p (some m) S d = rw (S .its-strand) (labelled m (S .earlier m refl))
-
-  may-be-asked : (p : ℕ) (o : Option ℕ) → Shows p o → p + 4096 < length P → Place P L p strand
-  may-be-asked p o S l = record {
-    inside = l;
-    label = rw (J .strand-is) (omega (arith, begun-some ev n, J .few, J .labels-room));
-    held-label = held-labelled p o S;
-  }
+  may-be-asked : (p : ℕ) → p + 4096 < length P → Place P L p strand
+  may-be-asked p l = record { inside = l; labels = J .labels-room; begun = rw (J .strand-is) (labelled n (omega arith)) }
 
   -- the two places of the record
   shows-write : Shows r (lastWrite ev r n)
@@ -63,7 +53,6 @@ module _
       let i : r + 4096 ≡ 4096 + r = omega arith in
       record {
         earlier = λ m e. last-write-is ev r n m e .0;
-        event = J .shown .write r (J .on-record);
         its-strand = rw i (J .shown .write-strand r (J .on-record));
       }
 
@@ -72,7 +61,6 @@ module _
       let i : 8192 + r + 4096 ≡ 12288 + r = omega arith in
       record {
         earlier = λ m e. standing-read-is ev r n m e .0;
-        event = J .shown .read r (J .on-record);
         its-strand = rw i (J .shown .read-strand r (J .on-record));
       }
 
@@ -83,10 +71,10 @@ module _
   standing-read-met = met-holds (8192 + r) (standing ev r n) shows-read
 
   last-write-place : Place P L r strand
-  last-write-place = may-be-asked r (lastWrite ev r n) shows-write (omega arith)
+  last-write-place = may-be-asked r (omega arith)
 
   standing-read-place : Place P L (8192 + r) strand
-  standing-read-place = may-be-asked (8192 + r) (standing ev r n) shows-read (omega arith)
+  standing-read-place = may-be-asked (8192 + r) (omega arith)
 
 module _ (P L : List ℕ) (r at strand : ℕ) where
   -- both places may be asked

@@ -5,7 +5,7 @@ ghost use Prim.Native.Nat.{ℕ, _+_, _<_, _≤_};
 ghost use lib.ListN.{length};
 ghost use Rattle.jobfile.specs.declared.coding.Event.{Event};
 ghost use Rattle.jobfile.specs.declared.coding.Event.the-variants.{Read, Write};
-ghost use Rattle.races.specs.Entries.{metIn, put, Place};
+ghost use Rattle.races.specs.Entries.{heldOr, metIn, put, Place};
 ghost use Rattle.races.specs.Shown.{Shown, Askable, Answers};
 
 // What an access finds: the first access of a race with it, or nothing.
@@ -67,10 +67,21 @@ fn meets(places: &[u32], labels: &[u64], at: usize, strand: usize) -> bool
     requires { ⌜ Place (now places) (now labels) at strand ⌝ }
     ensures { λ r. ⌜ r ≡ metIn (now (labels .entry)) (now (places .entry)) at strand ⌝ }
 {
-    if places[at] == 4294967295 {
-        return false;
+    let other = held_or(wide(places[at + 4096]), strand);
+    labels[4096 + strand] < labels[4096 + other]
+}
+
+// The strand that a place holds, or `strand` where that is none. The machine picks one without a branch: which places are empty
+// nobody foresees.
+fn held_or(held: usize, strand: usize) -> usize
+    requires { ⌜ strand < 4096 ⌝ }
+    ensures { λ r. ⌜ r ≡ heldOr held strand ⌝ }
+    ensures { λ r. ⌜ r < 4096 ⌝ }
+{
+    if held < 4096 {
+        return held;
     }
-    labels[4096 + strand] < labels[4096 + wide(places[at + 4096])]
+    strand
 }
 
 // Puts an event and its strand into the place whose event is at `at`.
