@@ -1,12 +1,12 @@
--- `append` meets its contract: the last strand has none after it, so what is stored is what `insert` stores, and either branch leaves the
--- labels and the count of `placed` and `placings`. Assumes nothing.
+-- `orders::in_turn::append` meets its contract: no strand comes after the last, so the links stored are those of `linked`, and either branch
+-- leaves the labels and the count of `placed` and `placings`. Assumes nothing.
 use mathlib.Core.Path.{_∙_}
 use native.Mathlib.Omega.{arith}
 use lib.ListN.{length-set}
 use borrow.Author.Needs.{needs}
 use Rattle.orders.proofs.InTurn.{linked-last, last-below, appended-between, appended-respaced}
-use Rattle.orders.proofs.append.Statement.{statement}
-use Rattle.orders.proofs.append.Tie as tie
+use Rattle.orders.proofs.in_turn.append.Statement.{statement}
+use Rattle.orders.proofs.in_turn.append.Tie as tie
 
 sub-last : tie.Need-sub-last
 sub-last c = search needs
@@ -94,18 +94,18 @@ slice-write-labels-2 c = search needs
 add-n : tie.Need-add-n
 add-n c = search needs
 
-respace-in-turn-requires : tie.Need-respace-in-turn-requires
-respace-in-turn-requires c κs = search needs
+respace-requires : tie.Need-respace-requires
+respace-requires c κs = search needs
 
 same-length-3 : tie.Need-same-length-3
-same-length-3 c = c .before .before .respace-in-turn .kept .0 ∙ simp length-set
+same-length-3 c = c .before .before .respace .kept .0 ∙ simp length-set
 
 same-length-4 : tie.Need-same-length-4
 same-length-4 c = search needs
 
 returns-2 : tie.Need-returns-2
 returns-2 c =
-    let r = c .before .before .respace-in-turn in
+    let r = c .before .before .respace in
     let e = c .before .before .before .before .before .before .before .before in
     rw (linked-last _ _ _ _ _ _ (e .pre), r .ensures .0, r .ensures .1) (appended-respaced _ _ _ _ _ _ (e .pre) (c .before .before .before .before .if1 .left))
 
@@ -141,7 +141,7 @@ append-spec =
     mul-labels-2
     slice-write-labels-2
     add-n
-    respace-in-turn-requires
+    respace-requires
     same-length-3
     same-length-4
     returns-2)

@@ -1,11 +1,12 @@
--- `respace_in_turn` meets its contract, as `respace` does: what is left are the strands as they began, from k on. Assumes nothing.
+-- `orders::in_turn::respace` meets its contract: at the loop's head what is done and what is left to do, the strands as they began from k
+-- on, make the whole (`Turn`). Assumes nothing.
 use Prim.Native.Nat.{_-_, _≤_}
 use native.Mathlib.Omega.{arith}
 use borrow.Author.Needs.{needs}
 use Rattle.orders.specs.InTurn.{strandsFrom}
 use Rattle.orders.proofs.Respaced.{Turn, turn-start, turn-more, turn-done, strands-cons, strands-none, strands-below, differ-few}
-use Rattle.orders.proofs.respace_in_turn.Statement.{statement}
-use Rattle.orders.proofs.respace_in_turn.Tie as tie
+use Rattle.orders.proofs.in_turn.respace.Statement.{statement}
+use Rattle.orders.proofs.in_turn.respace.Tie as tie
 
 abbrev Inv-loop : tie.InvT-loop
 Inv-loop labels₀ lo at n k₀ changed₀ labels k changed =
@@ -53,8 +54,8 @@ same-length c = search needs
 returns : tie.Need-returns Inv-loop μ-loop
 returns c = turn-done _ _ _ _ _ _ _ (rw (strands-none _ _ (c .loop-test .left)) at (c .before .loop .inv .2))
 
-pub respace-in-turn-spec : {M : Type 1} → statement M
-respace-in-turn-spec =
+pub respace-spec : {M : Type 1} → statement M
+respace-spec =
     tie.close
     (tie.spec
     Inv-loop
