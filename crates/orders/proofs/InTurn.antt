@@ -128,14 +128,10 @@ module _ (L K : List ℕ) (lo ln n settled : ℕ) (A : Appendable L K lo ln n se
   abbrev high : ℕ
   high = 2 ^ 64 - 1
 
-  last-held : nextIn K ln (n - 1) ≡ 65535
+  pub last-held : nextIn K ln (n - 1) ≡ 65535
   last-held =
       next-entry L K lo ln (P .st) (P .holds) (n - 1) (rw (P .size) (P .begun))
       ∙ rw (order-held (P .st) n settled (P .size) some (A .turn)) (last-next 0 n (n - 1) (omega arith))
-
-  pub linked-last : set (set (set K (ln + (n - 1)) n) (ln + n) 65535) (ln + 4096 + n) (n - 1) ≡ linked K ln (n - 1) n
-  unfolding linked
-  linked-last = rw last-held
 
   above-last : above L lo (nextIn K ln (n - 1)) ≡ high
   unfolding above

@@ -5,6 +5,7 @@ ghost use lib.ListN.{length};
 ghost use Rattle.orders.specs.Order.{relabel, changes};
 ghost use Rattle.orders.specs.Model.{Inserted};
 ghost use Rattle.orders.specs.InTurn.{strandsFrom, Appendable, Appends};
+use crate::chain::link;
 use crate::spacing::put;
 use crate::spacing::spaced;
 
@@ -30,9 +31,7 @@ pub fn append(
     ensures { λ r. ⌜ Appends (now (labels .entry)) (now (links .entry)) lo ln new settled (r .settled) ⌝ }
 {
     let last = new - 1;
-    links[ln + last] = new as u16;
-    links[ln + new] = 65535;
-    links[ln + 4096 + new] = last as u16;
+    link(links, ln, last, new, 65535);
     let a = labels[lo + last];
     let gap = 18446744073709551615 - a;
     if gap >= 2 {

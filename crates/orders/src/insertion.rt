@@ -1,10 +1,12 @@
 // A strand put right after any other one. A respacing starts at a mark: what stands ahead of it has the labels of its positions already.
 ghost use mathlib.Core.Path.{_≡_};
-ghost use Prim.Native.Nat.{_+_, _-_, _<_, _≤_};
+ghost use Prim.Native.Nat.{_+_, _-_, _≤_};
 ghost use lib.ListN.{length};
-ghost use Rattle.orders.specs.Order.{Walkable, orderOf, relabel, changes, linked, nextIn, above};
+ghost use Rattle.orders.specs.Order.{Walkable, orderOf, relabel, changes, above};
 ghost use Rattle.orders.specs.Model.{Inserted};
 ghost use Rattle.orders.specs.Marked.{lower, Marked, Settles};
+use crate::chain::link;
+use crate::chain::wide;
 use crate::spacing::put;
 use crate::spacing::spaced;
 
@@ -36,9 +38,10 @@ pub fn insert(
     ensures { λ r. ⌜ Inserted (now (labels .entry)) (now (links .entry)) lo ln after new (now (labels .exit)) (now (links .exit)) (r .changed) ⌝ }
     ensures { λ r. ⌜ Settles (now (labels .entry)) (now (links .entry)) lo ln after new mark (r .mark) ⌝ }
 {
-    let next = link(links, ln, after, new);
+    let next = links[ln + after];
+    link(links, ln, after, new, next);
     let a = labels[lo + after];
-    let gap = above(labels, lo, next) - a;
+    let gap = above(labels, lo, wide(next)) - a;
     let low = lowered(mark, after, a);
     if gap >= 2 {
         labels[lo + new] = a + gap / 2;
@@ -64,24 +67,6 @@ fn lowered(mark: Mark, after: usize, a: u64) -> Mark
         return Mark { from: after, at };
     }
     mark
-}
-
-// Puts strand `new` between `after` and the strand after it, and returns that strand, or 65535.
-fn link(links: &mut [u16], ln: usize, after: usize, new: usize) -> usize
-    requires { ⌜ ln + 8192 ≤ length (now links) ⌝ }
-    requires { ⌜ (after < 4096) × (new < 4096) ⌝ }
-    ensures { λ _. ⌜ now (links .exit) ≡ linked (now (links .entry)) ln after new ⌝ }
-    ensures { λ r. ⌜ r ≡ nextIn (now (links .entry)) ln after ⌝ }
-{
-    let b = links[ln + after];
-    let next = wide(b);
-    links[ln + after] = new as u16;
-    links[ln + new] = b;
-    links[ln + 4096 + new] = after as u16;
-    if next < 4096 {
-        links[ln + 4096 + next] = new as u16;
-    }
-    next
 }
 
 // The label of strand `next`, or the largest number where that is none.
@@ -119,10 +104,4 @@ fn respace(
         k += 1;
     }
     changed
-}
-
-fn wide(x: u16) -> usize
-    ensures { λ r. ⌜ r ≡ x ⌝ }
-{
-    x as usize
 }

@@ -1,51 +1,17 @@
--- `orders::in_turn::append` meets its contract: no strand comes after the last, so the links stored are those of `linked`, and either branch
--- leaves the labels and the count of `placed` and `placings`. Assumes nothing.
-use mathlib.Core.Path.{_∙_}
-use native.Mathlib.Omega.{arith}
+-- `orders::in_turn::append` meets its contract: no strand comes after the last, and either branch leaves the labels and the count of `placed`
+-- and `placings`. Assumes nothing.
+use mathlib.Core.Path.{sym, _∙_}
 use lib.ListN.{length-set}
 use borrow.Author.Needs.{needs}
-use Rattle.orders.proofs.InTurn.{linked-last, last-below, appended-between, appended-respaced}
+use Rattle.orders.proofs.InTurn.{last-held, last-below, appended-between, appended-respaced}
 use Rattle.orders.proofs.in_turn.append.Statement.{statement}
 use Rattle.orders.proofs.in_turn.append.Tie as tie
 
 sub-last : tie.Need-sub-last
 sub-last c = search needs
 
-cast-links : tie.Need-cast-links
-cast-links c = search needs
-
-add-links : tie.Need-add-links
-add-links c = search needs
-
-mul-links : tie.Need-mul-links
-mul-links c = search needs
-
-slice-write-links : tie.Need-slice-write-links
-slice-write-links c = search needs
-
-add-links-2 : tie.Need-add-links-2
-add-links-2 c = search needs
-
-mul-links-2 : tie.Need-mul-links-2
-mul-links-2 c = search needs
-
-slice-write-links-2 : tie.Need-slice-write-links-2
-slice-write-links-2 c = simp length-set (omega arith)
-
-cast-links-2 : tie.Need-cast-links-2
-cast-links-2 c = search needs
-
-add-links-3 : tie.Need-add-links-3
-add-links-3 c = search needs
-
-add-links-4 : tie.Need-add-links-4
-add-links-4 c = search needs
-
-mul-links-3 : tie.Need-mul-links-3
-mul-links-3 c = search needs
-
-slice-write-links-3 : tie.Need-slice-write-links-3
-slice-write-links-3 c = simp length-set (omega arith)
+link-requires : tie.Need-link-requires
+link-requires c κs = (search needs, (search needs, sym (last-held _ _ _ _ _ _ (c .before .before .before .pre))))
 
 add-a : tie.Need-add-a
 add-a c = search needs
@@ -57,7 +23,7 @@ slice-read-a : tie.Need-slice-read-a
 slice-read-a c = search needs
 
 sub-gap : tie.Need-sub-gap
-sub-gap c = last-below _ _ _ _ _ _ (c .before .before .before .pre)
+sub-gap c = last-below _ _ _ _ _ _ (c .before .before .before .before .before .before .before .pre)
 
 add-labels : tie.Need-add-labels
 add-labels c = search needs
@@ -79,8 +45,8 @@ same-length-2 c = search needs
 
 returns : tie.Need-returns
 returns c =
-    let e = c .before .before .before .before in
-    rw (linked-last _ _ _ _ _ _ (e .pre)) (appended-between _ _ _ _ _ _ (e .pre) (c .if1 .taken))
+    let l = c .before .before .before .before in
+    rw (l .link .ensures) (appended-between _ _ _ _ _ _ (l .before .before .before .before .pre) (c .if1 .taken))
 
 add-labels-3 : tie.Need-add-labels-3
 add-labels-3 c = search needs
@@ -105,27 +71,18 @@ same-length-4 c = search needs
 
 returns-2 : tie.Need-returns-2
 returns-2 c =
-    let r = c .before .before .respace in
-    let e = c .before .before .before .before .before .before .before .before in
-    rw (linked-last _ _ _ _ _ _ (e .pre), r .ensures .0, r .ensures .1) (appended-respaced _ _ _ _ _ _ (e .pre) (c .before .before .before .before .if1 .left))
+    let r = c .before .before in
+    let e = r .before .before in
+    let l = e .before .before .before .before in
+    rw (l .link .ensures, r .respace .ensures .0, r .respace .ensures .1)
+    (appended-respaced _ _ _ _ _ _ (l .before .before .before .before .pre) (e .if1 .left))
 
 pub append-spec : {M : Type 1} → statement M
 append-spec =
     tie.close
     (tie.spec
     sub-last
-    cast-links
-    add-links
-    mul-links
-    slice-write-links
-    add-links-2
-    mul-links-2
-    slice-write-links-2
-    cast-links-2
-    add-links-3
-    add-links-4
-    mul-links-3
-    slice-write-links-3
+    link-requires
     add-a
     mul-a
     slice-read-a
