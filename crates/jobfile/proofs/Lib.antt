@@ -3,5 +3,6 @@ pub mod Head
 pub mod Flags
 pub mod Turns
 pub mod Whole
+pub mod Told
 pub mod Accepted
 pub mod Cases

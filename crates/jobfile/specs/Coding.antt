@@ -4,7 +4,7 @@ use Prim.Native.Nat.{ℕ, _+_, _*_}
 use mathlib.Core.List.{List}
 use mathlib.Core.Bool.{cond}
 use lib.ListN.{getD}
-use lib.Dec.{eqb}
+use lib.Dec.{eqb, ltb}
 use Rattle.jobfile.specs.declared.coding.Event.the-variants.{Spawn, End, Sync, Read, Write}
 use Rattle.jobfile.specs.declared.coding.Decoded.{Decoded}
 use Rattle.jobfile.specs.declared.coding.Decoded.the-variants.{Event as An, Refused}
@@ -13,16 +13,30 @@ use Rattle.jobfile.specs.declared.coding.Decoded.the-variants.{Event as 
 -- record on kinds 1 to 3"
 unfoldable pub eventOf : ℕ → ℕ → ℕ → Decoded
 eventOf kind second number =
-    cond (eqb second 0)
+    cond (eqb kind 0) (Refused 8)
+    (cond (ltb 5 kind) (Refused 8)
+    (cond (eqb second 0)
     (cond (eqb kind 4) (An (Read number))
+    (cond (eqb kind 5) (An (Write number))
+    (cond (eqb number 0)
+    (cond (eqb kind 1) (An Spawn)
+    (cond (eqb kind 2) (An End)
+    (An Sync)))
+    (Refused 8))))
+    (Refused 8)))
+
+-- The same as the code tells it: the kind and the second byte as one number, accesses, which are the most common, first. No part of what
+-- must be believed: `told-is` (proofs/Told.antt).
+unfoldable pub toldOf : ℕ → ℕ → Decoded
+toldOf kind number =
+    cond (eqb kind 4) (An (Read number))
     (cond (eqb kind 5) (An (Write number))
     (cond (eqb number 0)
     (cond (eqb kind 1) (An Spawn)
     (cond (eqb kind 2) (An End)
     (cond (eqb kind 3) (An Sync)
     (Refused 8))))
-    (Refused 8))))
-    (Refused 8)
+    (Refused 8)))
 
 -- the bound that a caller needs
 abbrev pub DecodeFits : Decoded → Type 0

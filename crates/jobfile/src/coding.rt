@@ -2,7 +2,7 @@
 ghost use mathlib.Core.Path.{_≡_};
 ghost use Prim.Native.Nat.{_+_, _*_, _≤_};
 ghost use lib.ListN.{length};
-ghost use Rattle.jobfile.specs.Coding.{eventOf, decodeAt, DecodeFits};
+ghost use Rattle.jobfile.specs.Coding.{decodeAt, toldOf, DecodeFits};
 ghost use Rattle.jobfile.specs.Trace.{eventAt};
 
 // One of five things; two carry a record.
@@ -27,14 +27,12 @@ fn pair(low: u8, high: u8) -> u16
     (low as u16) + 256 * (high as u16)
 }
 
-// Refusal 8 has three grounds: the second byte, a record that the kind cannot have, or the kind. Accesses, the most common, are told first.
-fn event_of(kind: u8, second: u8, number: u16) -> Decoded
-    ensures { λ r. ⌜ r ≡ eventOf kind second number ⌝ }
+// The event of a kind and a record. A kind of two bytes is one of 1 to 5 only if the second byte is 0, so refusal 8 has two tests here:
+// the record of a kind that has none, and the kind.
+fn event_of(kind: u16, number: u16) -> Decoded
+    ensures { λ r. ⌜ r ≡ toldOf kind number ⌝ }
     ensures { λ r. ⌜ DecodeFits r ⌝ }
 {
-    if second != 0 {
-        return Decoded::Refused(8);
-    }
     if kind == 4 {
         return Decoded::Event(Event::Read(number));
     }
@@ -63,7 +61,10 @@ pub fn decode(part: &[u8], at: usize) -> Decoded
     ensures { λ r. ⌜ r ≡ decodeAt (now (part .entry)) at ⌝ }
     ensures { λ r. ⌜ DecodeFits r ⌝ }
 {
-    event_of(part[at], part[at + 1], pair(part[at + 2], part[at + 3]))
+    event_of(
+        pair(part[at], part[at + 1]),
+        pair(part[at + 2], part[at + 3]),
+    )
 }
 
 // Event number n of a part. Bytes that are refused stand for a sync; an accepted file shows none.

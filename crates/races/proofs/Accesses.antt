@@ -19,7 +19,7 @@ use Rattle.races.specs.Verdict.{clean, race}
 use Rattle.races.specs.declared.Met.{Met}
 use Rattle.races.specs.declared.Met.the-variants.{First, Nothing}
 use Rattle.races.specs.Shown.{eventOr, strandOr, Judgeable, Judged, Askable, Answers}
-use Rattle.races.specs.Entries.{heldOr, metIn, put, Place}
+use Rattle.races.specs.Entries.{heldOr, metIn, put}
 use Rattle.races.proofs.Places.{holds-some, last-write-is, standing-read-is}
 use Rattle.races.proofs.Verdict.{clean-all, read-clean, write-clean, last-write-races, standing-read-races}
 use Rattle.races.proofs.Shown.{shown-unique, write-shown, read-shown, read-kept}
@@ -36,16 +36,13 @@ module _
     earlier : (m : ℕ) → o ≡ some m → m < n
     its-strand : getD P (p + 4096) 0 ≡ strandOr ev o
 
-  -- what asking it answers, and that it may be asked
+  -- what asking it answers
   met-holds : (p : ℕ) (o : Option ℕ) → Shows p o → metIn L P p strand ≡ holds (parTo ev n) o
   unfolding metIn heldOr
   met-holds p none S = rw (S .its-strand) (le-ltb (getD L (4096 + strand) 0) (getD L (4096 + strand) 0) (omega arith))
   met-holds p (some m) S =
       let l : m < n = S .earlier m refl in
       rw (S .its-strand, lt-ltb (strandAt ev m) 4096 (labelled m (omega arith)), J .strand-is) (J .tells m l)
-
-  may-be-asked : (p : ℕ) → p + 4096 < length P → Place P L p strand
-  may-be-asked p l = record { inside = l; labels = J .labels-room; begun = rw (J .strand-is) (labelled n (omega arith)) }
 
   -- the two places of the record
   shows-write : Shows r (lastWrite ev r n)
@@ -70,20 +67,7 @@ module _
   standing-read-met : metIn L P (8192 + r) strand ≡ holds (parTo ev n) (standing ev r n)
   standing-read-met = met-holds (8192 + r) (standing ev r n) shows-read
 
-  last-write-place : Place P L r strand
-  last-write-place = may-be-asked r (omega arith)
-
-  standing-read-place : Place P L (8192 + r) strand
-  standing-read-place = may-be-asked (8192 + r) (omega arith)
-
 module _ (P L : List ℕ) (r at strand : ℕ) where
-  -- both places may be asked
-  pub last-write-askable : (e : Event) → Askable P L e r at strand → Place P L r strand
-  last-write-askable e A = last-write-place (A .judgeable)
-
-  pub standing-read-askable : (e : Event) → Askable P L e r at strand → Place P L (8192 + r) strand
-  standing-read-askable e A = standing-read-place (A .judgeable)
-
   -- the last write is parallel: a race with it
   pub last-write-found : (e : Event) → conflict write (accessOf e) ≡ true → recordOf e ≡ r → metIn L P r strand ≡ true
       → Answers P L e r at strand P (First (getD P r 0))

@@ -1,6 +1,7 @@
 // The places of the records, the last write and the standing read of each, in a lent buffer: what an access finds there.
 // The theory of races stands in specs/ and proofs/.
 ghost use mathlib.Core.Path.{_≡_};
+ghost use mathlib.Core.Bool.{_||_};
 ghost use Prim.Native.Nat.{ℕ, _+_, _<_, _≤_};
 ghost use lib.ListN.{length};
 ghost use Rattle.jobfile.specs.declared.coding.Event.{Event};
@@ -46,20 +47,31 @@ pub fn read(places: &mut [u32], labels: &[u64], r: usize, at: usize, strand: usi
 }
 
 // Event `at`, in `strand`, writes record r: the last write where that is parallel to it, or else the standing read. Where neither is,
-// the write is the last one.
+// the write is the last one. Both places are asked at once: most writes race with neither.
 // requires: the places show the events before this one, and the labels tell which of those are parallel to it.
 pub fn write(places: &mut [u32], labels: &[u64], r: usize, at: usize, strand: usize) -> Met
     requires { ⌜ Askable (now places) (now labels) (Write r) r at strand ⌝ }
     ensures { λ m. ⌜ Answers (now (places .entry)) (now (labels .entry)) (Write r) r at strand (now (places .exit)) m ⌝ }
 {
-    if meets(places, labels, r, strand) {
-        return Met::First(wide(places[r]));
-    }
-    if meets(places, labels, 8192 + r, strand) {
+    let wrote = meets(places, labels, r, strand);
+    let stood = meets(places, labels, 8192 + r, strand);
+    if either(wrote, stood) {
+        if wrote {
+            return Met::First(wide(places[r]));
+        }
         return Met::First(wide(places[8192 + r]));
     }
     put(places, r, at as u32, strand as u32);
     Met::Nothing
+}
+
+fn either(a: bool, b: bool) -> bool
+    ensures { λ r. ⌜ r ≡ (a || b) ⌝ }
+{
+    if a {
+        return true;
+    }
+    b
 }
 
 // Whether the place whose event is at `at` holds an access that is parallel to `strand`, the current one: its Hebrew label is above.

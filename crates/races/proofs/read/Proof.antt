@@ -2,13 +2,13 @@
 use mathlib.Core.Path.{refl, sym, _∙_}
 use borrow.Author.Tests.{not-true, not-false}
 use Rattle.jobfile.specs.declared.coding.Event.the-variants.{Read}
-use Rattle.races.proofs.Accesses.{last-write-askable, standing-read-askable, last-write-found, read-taken, read-left}
+use Rattle.races.proofs.Accesses.{last-write-found, read-taken, read-left}
 use borrow.Author.Needs.{needs}
 use Rattle.races.proofs.read.Statement.{statement}
 use Rattle.races.proofs.read.Tie as tie
 
 meets-requires : tie.Need-meets-requires
-meets-requires c κs = last-write-askable _ _ _ _ _ _ (c .before .before .before .pre)
+meets-requires c κs = search needs
 
 mul-wide : tie.Need-mul-wide
 mul-wide c = search needs
@@ -31,7 +31,7 @@ add-meets : tie.Need-add-meets
 add-meets c = search needs
 
 meets-requires-2 : tie.Need-meets-requires-2
-meets-requires-2 c κs = standing-read-askable _ _ _ _ _ _ (c .before .before .before .before .before .before .pre)
+meets-requires-2 c κs = search needs
 
 add-put : tie.Need-add-put
 add-put c = search needs

@@ -1,13 +1,31 @@
 -- `write` meets its contract: the answers of the two questions say which way the write goes. Assumes nothing.
-use mathlib.Core.Path.{refl, sym, _∙_}
+use mathlib.Core.Path.{_≡_, refl, sym, _∙_}
+use mathlib.Core.Bool.{Bool, true, false, _||_}
 use Rattle.jobfile.specs.declared.coding.Event.the-variants.{Write}
-use Rattle.races.proofs.Accesses.{last-write-askable, standing-read-askable, last-write-found, standing-read-found, write-taken}
+use Rattle.races.proofs.Accesses.{last-write-found, standing-read-found, write-taken}
 use borrow.Author.Needs.{needs}
 use Rattle.races.proofs.write.Statement.{statement}
 use Rattle.races.proofs.write.Tie as tie
 
+-- what both answers say together
+second : (a b r : Bool) → r ≡ (a || b) → r ≡ true → a ≡ false → b ≡ true
+second a b r e t f = sym (rw f at e) ∙ t
+
+neither : (a b r : Bool) → r ≡ (a || b) → r ≡ false → (a ≡ false) × (b ≡ false)
+neither true b r e f = let z : true ≡ false = sym e ∙ f in (z, cc)
+neither false b r e f = (refl, sym e ∙ f)
+
 meets-requires : tie.Need-meets-requires
-meets-requires c κs = last-write-askable _ _ _ _ _ _ (c .before .before .before .pre)
+meets-requires c κs = search needs
+
+add-meets : tie.Need-add-meets
+add-meets c = search needs
+
+meets-requires-2 : tie.Need-meets-requires-2
+meets-requires-2 c κs = search needs
+
+either-requires : tie.Need-either-requires
+either-requires c κs = search needs
 
 mul-wide : tie.Need-mul-wide
 mul-wide c = search needs
@@ -23,14 +41,9 @@ same-length c = search needs
 
 returns : tie.Need-returns
 returns c =
-    let test = c .before .before in
-    rw (c .wide .ensures) (last-write-found _ _ _ _ _ (Write _) refl refl (sym (test .before .meets .ensures) ∙ test .if1 .taken))
-
-add-meets : tie.Need-add-meets
-add-meets c = search needs
-
-meets-requires-2 : tie.Need-meets-requires-2
-meets-requires-2 c κs = standing-read-askable _ _ _ _ _ _ (c .before .before .before .before .before .before .pre)
+    let t = c .before .before in
+    let m = t .before .before .before .before .before in
+    rw (c .wide .ensures) (last-write-found _ _ _ _ _ (Write _) refl refl (sym (m .meets .ensures) ∙ t .if2 .taken))
 
 add-wide : tie.Need-add-wide
 add-wide c = search needs
@@ -49,10 +62,12 @@ same-length-2 c = search needs
 
 returns-2 : tie.Need-returns-2
 returns-2 c =
-    let test = c .before .before in
-    let past = test .before .before .before in
+    let t = c .before .before in
+    let e = t .before .before in
+    let m = e .before .before .before in
     rw (c .wide2 .ensures)
-    (standing-read-found _ _ _ _ _ (sym (past .before .meets .ensures) ∙ past .if1 .left) (sym (test .before .meets2 .ensures) ∙ test .if2 .taken))
+    (standing-read-found _ _ _ _ _ (sym (m .meets .ensures) ∙ t .if2 .left)
+    (sym (e .before .meets2 .ensures) ∙ second _ _ _ (e .either .ensures) (t .before .if1 .taken) (t .if2 .left)))
 
 cast-put : tie.Need-cast-put
 cast-put c = search needs
@@ -68,23 +83,26 @@ same-length-3 c = search needs
 
 returns-3 : tie.Need-returns-3
 returns-3 c =
-    let test = c .before .before .before .before in
-    let past = test .before .before .before in
-    rw (c .before .before .put .ensures)
-    (write-taken _ _ _ _ _ (sym (past .before .meets .ensures) ∙ past .if1 .left) (sym (test .before .meets2 .ensures) ∙ test .if2 .left))
+    let p = c .before .before in
+    let t = p .before .before in
+    let e = t .before in
+    let m = e .before .before .before in
+    let n = neither _ _ _ (e .either .ensures) (t .if1 .left) in
+    rw (p .put .ensures) (write-taken _ _ _ _ _ (sym (m .meets .ensures) ∙ n .0) (sym (e .before .meets2 .ensures) ∙ n .1))
 
 pub write-spec : {M : Type 1} → statement M
 write-spec =
     tie.close
     (tie.spec
     meets-requires
+    add-meets
+    meets-requires-2
+    either-requires
     mul-wide
     slice-read-wide
     wide-requires
     same-length
     returns
-    add-meets
-    meets-requires-2
     add-wide
     mul-wide-2
     slice-read-wide-2
