@@ -1,6 +1,7 @@
 //! Times judging by the Rust program of equal method and, with the feature `rattle`, by the library, and prints a table.
 
 use bench::jobs::{judging, orders, Row};
+use bench::order::MARKED;
 use bench::rival;
 use compare::calls::{judged, refused};
 use second::{LABELS, LINKS, PLACES};
@@ -49,7 +50,7 @@ fn options(arguments: &[String]) -> Result<Options, String> {
 }
 
 fn by_rust(file: &[u8], k: u64, labels: &mut [u64], links: &mut [u16], places: &mut [u32]) -> [u64; 9] {
-    rival::judge(file, k, labels, links, places).map_or_else(refused, judged)
+    rival::judge::<MARKED>(file, k, labels, links, places).map_or_else(refused, judged)
 }
 
 #[cfg(feature = "rattle")]

@@ -1,6 +1,6 @@
 //! Times one order alone, 4,095 insertions: by the Rust order of equal method and, with the feature `rattle`, by the library.
 
-use bench::order::{grow, STRANDS};
+use bench::order::{grow, MARKED, STRANDS};
 use std::hint::black_box;
 use std::process::ExitCode;
 use std::time::{Duration, Instant};
@@ -28,7 +28,7 @@ fn main() -> ExitCode {
     println!("| where | labels changed | Rust | library | ratio |");
     println!("|---|---|---|---|---|");
     for (what, factor) in RULES {
-        let rust = grown(grow, factor);
+        let rust = grown(grow::<MARKED>, factor);
         if library().is_some_and(|library| grown(library, factor) != rust) {
             eprintln!("orders: the sides differ for factor {factor}");
             return ExitCode::FAILURE;
@@ -49,7 +49,7 @@ fn grown(side: Grow, factor: u16) -> (Vec<u64>, Vec<u16>, u64) {
 fn line(what: &str, factor: u16, count: u64) -> String {
     let (mut rust, mut rattle) = (Duration::MAX, Duration::MAX);
     for _ in 0..ROUNDS {
-        rust = rust.min(timed(grow, factor));
+        rust = rust.min(timed(grow::<MARKED>, factor));
         rattle = library().map_or(rattle, |library| rattle.min(timed(library, factor)));
     }
     let micro = |time: Duration| time.as_secs_f64() * 1e6;
