@@ -1,65 +1,75 @@
 //! The jobs that are timed. None of them races: judging would stop early, and little would be timed.
 
+use crate::sides::events_of;
 use compare::jobs::{events, Draft, Shape};
 use compare::random::Random;
 use compare::script::{END, SPAWN, SYNC};
 
-const EVENTS: usize = 16_000;
+/// The lengths of the jobs that show how time grows.
+const LENGTHS: [usize; 6] = [1_000, 4_000, 16_000, 64_000, 256_000, 1_000_000];
 
-/// A row of the table: what the jobs are, and their files.
+const DEEP: Shape = Shape {
+    events: 16_000,
+    open: 64,
+    records: 4096,
+    spawns: 3,
+    ends: 2,
+    syncs: 1,
+    accesses: 15,
+    writes: 40,
+    race_free: true,
+};
+
+/// At most two tasks open.
+const FLAT: Shape = Shape { open: 2, spawns: 7, ends: 7, ..DEEP };
+
+/// A row of a table: what the jobs are, and their files.
 pub struct Row {
-    pub what: &'static str,
+    pub what: String,
     pub files: Vec<Vec<u8>>,
+}
+
+impl Row {
+    fn new(what: &str, files: Vec<Vec<u8>>) -> Row {
+        Row { what: what.to_string(), files }
+    }
 }
 
 /// Whole jobs of about 16,000 events, half of them deep and half flat.
 pub fn judging(seed: u64, jobs: usize) -> Vec<Row> {
-    let shape = Shape {
-        events: EVENTS,
-        open: 64,
-        records: 4096,
-        spawns: 3,
-        ends: 2,
-        syncs: 1,
-        accesses: 15,
-        writes: 40,
-        race_free: true,
-    };
-    let flat_shape = Shape { open: 2, spawns: 7, ends: 7, ..shape };
-    let deep = |number| generated(seed, number, shape);
-    let flat = |number| generated(seed, number, flat_shape);
-    let half = (jobs / 2).max(1) as u64;
+    let half = (jobs / 2).max(1);
     vec![
-        Row { what: "deep", files: (0..half).map(deep).collect() },
-        Row { what: "flat", files: (0..half).map(flat).collect() },
+        Row::new("deep", generated(seed, DEEP).take(half).collect()),
+        Row::new("flat", generated(seed, FLAT).take(half).collect()),
     ]
 }
 
 /// Jobs that only begin strands, 4,096 with the root: 4,095 insertions in each order.
 pub fn orders(seed: u64, jobs: usize) -> Vec<Row> {
-    let repeated = |events: Vec<[u8; 4]>| vec![Draft::new(Vec::new(), 1, events).file(); jobs.max(1)];
-    let scattered = Shape {
-        events: 5_000,
-        open: 64,
-        records: 1,
-        spawns: 4,
-        ends: 4,
-        syncs: 1,
-        accesses: 0,
-        writes: 0,
-        race_free: true,
-    };
+    let repeated = |events: Vec<[u8; 4]>| vec![Draft::new(Vec::new(), 1, events).file(); jobs];
+    let scattered = Shape { events: 5_000, records: 1, spawns: 4, ends: 4, accesses: 0, writes: 0, ..DEEP };
     vec![
-        Row { what: "appending (S E J)", files: repeated([SPAWN, END, SYNC].repeat(1365)) },
-        Row { what: "at one place (S E)", files: repeated([[SPAWN, END].repeat(2047), vec![SYNC]].concat()) },
-        Row {
-            what: "scattered",
-            files: (0..jobs.max(1) as u64).map(|number| generated(seed, number, scattered)).collect(),
-        },
+        Row::new("appending (S E J)", repeated([SPAWN, END, SYNC].repeat(1365))),
+        Row::new("at one place (S E)", repeated([[SPAWN, END].repeat(2047), vec![SYNC]].concat())),
+        Row::new("scattered", generated(seed, scattered).take(jobs).collect()),
     ]
 }
 
-fn generated(seed: u64, number: u64, shape: Shape) -> Vec<u8> {
-    let events = events(&mut Random::of_file(seed, number), &shape);
-    Draft::new(b"timed".to_vec(), shape.records as u32, events).file()
+/// Deep jobs of exactly so many events, for each length; more of the short ones. A long job has more accesses to a strand: else its
+/// strands would be used up early, and all the rest be reads of the few records that the root owns.
+pub fn growth(seed: u64) -> impl Iterator<Item = Row> {
+    LENGTHS.into_iter().map(move |length| {
+        let accesses = DEEP.accesses * length.div_ceil(DEEP.events);
+        let files = generated(seed, Shape { events: length, accesses, ..DEEP });
+        let exact = files.filter(|file| events_of(file) == length as u64);
+        Row::new(&length.to_string(), exact.take((200_000 / length).clamp(3, 100)).collect())
+    })
+}
+
+/// The files of a seed and a shape.
+fn generated(seed: u64, shape: Shape) -> impl Iterator<Item = Vec<u8>> {
+    (0..).map(move |number| {
+        let events = events(&mut Random::of_file(seed, number), &shape);
+        Draft::new(b"timed".to_vec(), shape.records as u32, events).file()
+    })
 }

@@ -5,3 +5,4 @@ pub mod jobs;
 pub mod order;
 pub mod rival;
 pub mod sides;
+pub mod turns;

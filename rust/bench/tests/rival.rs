@@ -2,7 +2,7 @@
 
 use bench::jobs;
 use bench::order::{MARKED, PLAIN};
-use bench::sides::{Buffers, Rival};
+use bench::sides::{events_of, Buffers, Rival};
 use compare::calls::{Calls, Second};
 use compare::differ::Sides;
 use compare::files::{generated, limits};
@@ -46,6 +46,18 @@ fn timed_jobs_are_long_and_clean() {
     }
     for row in jobs::orders(1, 2) {
         assert!(row.files.iter().all(|file| strands_if_clean(file) == Some(4096)), "{}", row.what);
+    }
+}
+
+#[test]
+fn growing_jobs_have_their_length_and_are_clean() {
+    let lengths = [1_000, 4_000, 16_000, 64_000, 256_000, 1_000_000];
+    let rows: Vec<jobs::Row> = jobs::growth(1).collect();
+    assert_eq!(rows.len(), lengths.len());
+    for (row, length) in rows.iter().zip(lengths) {
+        assert!(row.files.len() >= 3, "{length}");
+        assert!(row.files.iter().all(|file| events_of(file) == length), "{length}");
+        assert!(row.files.iter().all(|file| strands_if_clean(file) > Some(100)), "{length}");
     }
 }
 
