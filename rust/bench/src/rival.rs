@@ -14,7 +14,7 @@ const READS: usize = 2;
 const NO_STRAND: usize = usize::MAX;
 
 /// Judges the first k events of a file, or fewer if a race is met.
-pub fn judge<const KIND: bool>(
+pub fn judge<const KIND: u8>(
     file: &[u8],
     k: u64,
     labels: &mut [u64],
@@ -48,7 +48,7 @@ pub fn judge<const KIND: bool>(
 
 /// The state of judging. For each open task: the strand that is last of those before the current point, which is the task's own
 /// current one; and the strand that is last of those still to be joined, or none.
-struct State<'a, const KIND: bool> {
+struct State<'a, const KIND: u8> {
     english: Order<'a, KIND>,
     hebrew: Order<'a, KIND>,
     places: &'a mut [[u32; RECORDS]; 4],
@@ -60,7 +60,7 @@ struct State<'a, const KIND: bool> {
 
 // Branches that could not be foreseen are left out: which of spawn, end and sync an event is, whether it reads or writes, whether a
 // place is empty, and whether a read comes to stand.
-impl<const KIND: bool> State<'_, KIND> {
+impl<const KIND: u8> State<'_, KIND> {
     /// Takes the events, which were checked, up to the first race, which is given.
     fn run(&mut self, events: &[u8]) -> Option<Race> {
         for (at, event) in numbers(events).enumerate() {

@@ -1,15 +1,15 @@
 //! The sides that are timed: both Rust programs and, with the feature `rattle`, the library, behind the calls of the C interface.
 
 use crate::check::{check, Accepted};
-use crate::order::{grow, MARKED, PLAIN};
+use crate::order::{grow, ENDS, MARKED, PLAIN};
 use crate::rival;
 use compare::calls::{judged, refused, Calls, Second};
 use second::{LABELS, LINKS, PLACES};
 
 /// The Rust program whose orders are of a kind, with the second program's writing and question.
-pub struct Rival<const KIND: bool>;
+pub struct Rival<const KIND: u8>;
 
-impl<const KIND: bool> Calls for Rival<KIND> {
+impl<const KIND: u8> Calls for Rival<KIND> {
     fn read(&self, file: &[u8]) -> [u64; 6] {
         let numbers = |Accepted { start, count, records }: Accepted| {
             [0, 0, start, start, 4 * count, records].map(|number| number as u64)
@@ -46,7 +46,7 @@ fn library() -> Option<(&'static dyn Calls, Grow)> {
 
 /// The sides that judge: plain, marked and, if it is there, the library.
 pub fn judging() -> Vec<&'static dyn Calls> {
-    let rivals: [&dyn Calls; 2] = [&Rival::<PLAIN>, &Rival::<MARKED>];
+    let rivals: [&dyn Calls; 2] = [&Rival::<PLAIN>, &Rival::<ENDS>];
     rivals.into_iter().chain(library().map(|(library, _)| library)).collect()
 }
 
@@ -57,7 +57,7 @@ pub fn checking() -> Vec<&'static dyn Calls> {
 
 /// The sides that grow an order.
 pub fn growing() -> Vec<Grow> {
-    let rivals: [Grow; 2] = [grow::<PLAIN>, grow::<MARKED>];
+    let rivals: [Grow; 3] = [grow::<PLAIN>, grow::<MARKED>, grow::<ENDS>];
     rivals.into_iter().chain(library().map(|(_, grow)| grow)).collect()
 }
 

@@ -14,15 +14,15 @@ pub fn best<S: Copy>(sides: &[S], rounds: u64, timed: impl Fn(S) -> Duration) ->
     best
 }
 
-/// A line of a table: the cells of what was timed, the rivals' times, the library's, and the library's over each rival's.
-pub fn line(mut cells: Vec<String>, rivals: usize, times: &[f64]) -> String {
-    let (rivals, library) = times.split_at(rivals);
+/// A line of a table: the cells of what was timed, the times of so many programs, the library's, and the library's over each of theirs.
+pub fn line(mut cells: Vec<String>, programs: usize, times: &[f64]) -> String {
+    let (programs, library) = times.split_at(programs);
     let shown = |number: Option<String>| number.unwrap_or("-".to_string());
     let time = |time: &f64| format!("{time:.*}", if *time < 100.0 { 2 } else { 1 });
-    let ratio = |rival: &f64| shown(library.first().map(|library| format!("{:.3}", library / rival)));
-    cells.extend(rivals.iter().map(time));
+    let ratio = |program: &f64| shown(library.first().map(|library| format!("{:.3}", library / program)));
+    cells.extend(programs.iter().map(time));
     cells.push(shown(library.first().map(time)));
-    cells.extend(rivals.iter().map(ratio));
+    cells.extend(programs.iter().map(ratio));
     format!("| {} |", cells.join(" | "))
 }
 

@@ -1,6 +1,6 @@
-//! One order alone, of both kinds: 01's counts, and the library's order entry by entry.
+//! One order alone, of each kind: 01's counts, and the library's order entry by entry.
 
-use bench::order::{grow, Order, MARKED, PLAIN, STRANDS};
+use bench::order::{grow, Order, ENDS, MARKED, PLAIN, STRANDS};
 use bench::sides::{growing, Grow};
 
 fn grown(side: Grow, factor: u16) -> (Vec<u64>, Vec<u16>, u64) {
@@ -10,7 +10,7 @@ fn grown(side: Grow, factor: u16) -> (Vec<u64>, Vec<u16>, u64) {
 }
 
 /// The labels and the count of an order of so many strands, each set behind the last.
-fn in_line<const KIND: bool>(strands: usize, set: fn(&mut Order<KIND>, usize)) -> (Vec<u64>, u64) {
+fn in_line<const KIND: u8>(strands: usize, set: fn(&mut Order<KIND>, usize)) -> (Vec<u64>, u64) {
     let (mut labels, mut next, mut back) = ([0; STRANDS], [0; STRANDS], [0; STRANDS]);
     let mut order = Order::root(&mut labels, &mut next, &mut back);
     (1..strands).for_each(|new| set(&mut order, new));
@@ -23,6 +23,7 @@ fn appended_strands_count_as_01_says() {
     for (strands, count) in [(1, 1), (65, 129), (131, 259)] {
         assert_eq!(in_line::<PLAIN>(strands, |order, new| order.append(new)).1, count, "{strands} strands");
         assert_eq!(in_line::<MARKED>(strands, |order, new| order.append(new)).1, count, "{strands} strands");
+        assert_eq!(in_line::<ENDS>(strands, |order, new| order.append(new)).1, count, "{strands} strands");
     }
 }
 
@@ -31,11 +32,13 @@ fn appending_is_inserting_behind_the_last() {
     let inserted = in_line::<PLAIN>(STRANDS, |order, new| order.insert(new - 1, new));
     assert_eq!(in_line::<MARKED>(STRANDS, |order, new| order.insert(new - 1, new)), inserted);
     assert_eq!(in_line::<MARKED>(STRANDS, |order, new| order.append(new)), inserted);
+    assert_eq!(in_line::<ENDS>(STRANDS, |order, new| order.insert(new - 1, new)), inserted);
+    assert_eq!(in_line::<ENDS>(STRANDS, |order, new| order.append(new)), inserted);
 }
 
 #[test]
 fn entries_past_the_order_stay() {
-    for side in [grow::<PLAIN>, grow::<MARKED>] {
+    for side in [grow::<PLAIN>, grow::<MARKED>, grow::<ENDS>] {
         let (labels, links, _) = grown(side, 1);
         assert_eq!(labels[STRANDS..], [7; 3]);
         assert_eq!(links[2 * STRANDS..], [7; 3]);

@@ -1,4 +1,4 @@
-//! Times one order alone, 4,095 insertions: by the Rust orders of both kinds and, with the feature `rattle`, by the library.
+//! Times one order alone, 4,095 insertions: by the Rust orders of each kind and, with the feature `rattle`, by the library.
 
 use bench::order::STRANDS;
 use bench::sides::{growing, Grow};
@@ -10,12 +10,15 @@ use std::time::{Duration, Instant};
 /// Where each strand goes, and the factor of the rule that says so.
 const RULES: [(&str, u16); 3] = [("appending", 1), ("always behind the first", 0), ("scattered", 40503)];
 
+/// The tuned program's order is walked from both ends.
+const COLUMNS: [&str; 9] =
+    ["where", "labels changed", "plain", "marked", "tuned", "library", "to plain", "to marked", "to tuned"];
+
 const ROUNDS: u64 = 1000;
 
 fn main() -> ExitCode {
     println!("4,095 insertions, best of {ROUNDS}; microseconds\n");
-    let columns = ["where", "labels changed", "plain Rust", "Rust with the mark", "library", "to plain", "to the mark"];
-    println!("{}", head(&columns));
+    println!("{}", head(&COLUMNS));
     for (what, factor) in RULES {
         let grown: Vec<_> = growing().into_iter().map(|side| grown(side, factor)).collect();
         if grown.iter().any(|other| *other != grown[0]) {
@@ -24,7 +27,7 @@ fn main() -> ExitCode {
         }
         let best = best(&growing(), ROUNDS, |side| timed(side, factor));
         let times: Vec<f64> = best.iter().map(|time| time.as_secs_f64() * 1e6).collect();
-        println!("{}", line(vec![what.to_string(), grown[0].2.to_string()], 2, &times));
+        println!("{}", line(vec![what.to_string(), grown[0].2.to_string()], 3, &times));
     }
     ExitCode::SUCCESS
 }
