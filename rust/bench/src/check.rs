@@ -1,14 +1,10 @@
-//! The check of a whole file, in one pass over its events, and what an event says as a number of 32 bits.
+//! The check of a whole file: its trailer, its name, and in one pass its events.
 
+use crate::event::{decode, Event};
 use crate::order::STRANDS;
 use second::Refusal;
 
 pub const MOST_OPEN: usize = 64;
-
-// The events that begin strands have nothing but their kind.
-const SPAWN: u32 = 1;
-pub const END: u32 = 2;
-pub const SYNC: u32 = 3;
 
 /// An accepted file: where its events start, how many they are, and the record count.
 #[derive(Clone, Copy, Debug)]
@@ -24,13 +20,25 @@ pub fn refused<T>(number: u64) -> Result<T, Refusal> {
 
 /// Checks a whole file.
 pub fn check(file: &[u8]) -> Result<Accepted, Refusal> {
+    check_by(file, check_events)
+}
+
+/// Checks a whole file, its events by a pass that is given them and the record count.
+pub fn check_by(file: &[u8], check_events: fn(&[[u8; 4]], usize) -> Result<(), Refusal>) -> Result<Accepted, Refusal> {
     let accepted = check_trailer(file)?;
     let name = &file[..accepted.start];
     if name.len() > 64 || name.iter().any(|&byte| !(32..=126).contains(&byte)) {
         return refused(7);
     }
-    check_events(&file[accepted.start..accepted.start + 4 * accepted.count], accepted.records)?;
+    check_events(accepted.events(file, accepted.count), accepted.records)?;
     Ok(accepted)
+}
+
+impl Accepted {
+    /// The first k events of the file.
+    pub fn events<'a>(&self, file: &'a [u8], k: usize) -> &'a [[u8; 4]] {
+        file[self.start..self.start + 4 * k].as_chunks().0
+    }
 }
 
 fn check_trailer(file: &[u8]) -> Result<Accepted, Refusal> {
@@ -48,50 +56,42 @@ fn check_trailer(file: &[u8]) -> Result<Accepted, Refusal> {
     }
 }
 
-/// Accesses come first, as most events are accesses. Spawn, end and sync are treated alike: no branch could foresee which it is.
-fn check_events(events: &[u8], records: usize) -> Result<(), Refusal> {
+fn check_events(events: &[[u8; 4]], records: usize) -> Result<(), Refusal> {
     let mut waiting = [false; MOST_OPEN];
     let (mut current, mut strands) = (0, 1);
-    for (at, event) in numbers(events).enumerate() {
+    for (at, &bytes) in events.iter().enumerate() {
         let refused = |number| Err(Refusal { number, event: at as u64 });
-        // Kind 4 or 5, and the zero byte.
-        if event & 0xFFFE == 4 {
-            if record(event) >= records {
-                return refused(9);
+        let Some(event) = decode(bytes) else { return refused(8) };
+        match event {
+            Event::Read(record) | Event::Write(record) => {
+                if record >= records {
+                    return refused(9);
+                }
+                continue;
             }
-            continue;
+            Event::End if current == 0 => return refused(10),
+            Event::Spawn if current + 1 == MOST_OPEN => return refused(11),
+            Event::Spawn => {
+                current += 1;
+                waiting[current] = false;
+                strands += 1;
+            }
+            Event::End => {
+                current -= 1;
+                waiting[current] = true;
+                strands += 1;
+            }
+            Event::Sync => {
+                strands += usize::from(waiting[current]);
+                waiting[current] = false;
+            }
         }
-        if !(SPAWN..=SYNC).contains(&event) {
-            return refused(8);
-        }
-        let task = task_after(event, current);
-        if task >= MOST_OPEN {
-            return refused(if event == END { 10 } else { 11 });
-        }
-        strands += usize::from((event != SYNC) | waiting[current]);
         if strands > STRANDS {
             return refused(12);
         }
-        waiting[task] = event == END;
-        current = task;
     }
     if current > 0 {
         return refused(13);
     }
     Ok(())
-}
-
-/// The events as numbers.
-pub fn numbers(events: &[u8]) -> impl Iterator<Item = u32> + '_ {
-    events.as_chunks().0.iter().map(|&bytes| u32::from_le_bytes(bytes))
-}
-
-/// The record of an access.
-pub fn record(event: u32) -> usize {
-    (event >> 16) as usize
-}
-
-/// The place of the task that is current after a spawn, end or sync, the root's being 0; over every place if the root would end.
-pub fn task_after(event: u32, current: usize) -> usize {
-    current.wrapping_add(usize::from(event == SPAWN)).wrapping_sub(usize::from(event == END))
 }

@@ -1,5 +1,5 @@
-//! Times judging and the check by both Rust programs of equal method and, with the feature `rattle`, by the library, and prints
-//! three tables: judging, the check alone, and how time grows with the number of events.
+//! Times judging and the check by the three Rust programs and, with the feature `rattle`, by the library, and prints three tables:
+//! judging, the check alone, and how time grows with the number of events.
 
 use bench::jobs::{growth, judging, orders, Row};
 use bench::sides::{self, events_of, Buffers};
@@ -15,8 +15,8 @@ const USAGE: &str = "usage: bench [--seed N] [--jobs N] [--rounds N] [--short]
   --rounds N  how often each is timed; the best time of each job counts (9)
   --short     few jobs and rounds (200 and 9)";
 
-/// The columns of the three sides, and of the library's time over the rivals'.
-const JUDGES: [&str; 5] = ["plain Rust", "Rust with the mark", "library", "to plain", "to the mark"];
+/// The columns of the sides that judge, and of the library's time over that of each program.
+const JUDGES: [&str; 7] = ["plain", "marked", "tuned", "library", "to plain", "to marked", "to tuned"];
 
 struct Options {
     seed: u64,
@@ -60,11 +60,15 @@ fn run(options: &Options) -> Result<(), String> {
     for row in whole.iter().chain(&orders(seed, 20)) {
         println!("{}", judged(row, rounds)?);
     }
-    println!("\nthe check alone; microseconds a job\n\n{}", head(&["jobs", "Rust", "library", "ratio"]));
+    println!(
+        "\nthe check alone; microseconds a job\n\n{}",
+        head(&["jobs", "Rust", "tuned", "library", "to Rust", "to tuned"])
+    );
     for row in &whole {
         println!("{}", checked(row, rounds)?);
     }
-    println!("\ndeep jobs; microseconds a thousand events\n\n{}", head(&[&["events", "count"], &JUDGES[..]].concat()));
+    println!("\ndeep jobs; microseconds a thousand events\n");
+    println!("{}", head(&[&["events", "count"], &JUDGES[..]].concat()));
     for row in growth(seed) {
         println!("{}", grown(&row, rounds)?);
     }
@@ -77,13 +81,13 @@ fn judged(row: &Row, rounds: u64) -> Result<String, String> {
     let strands = row.files.iter().map(|file| agreed_judging(file)).sum::<Result<u64, String>>()? / count;
     let events = row.files.iter().map(|file| events_of(file)).sum::<u64>() / count;
     let what = vec![row.what.clone(), count.to_string(), events.to_string(), strands.to_string()];
-    Ok(line(what, 2, &mean(row, &sides::judging(), rounds, judging_time)))
+    Ok(line(what, 3, &mean(row, &sides::judging(), rounds, judging_time)))
 }
 
 /// A line of the second table: the check alone.
 fn checked(row: &Row, rounds: u64) -> Result<String, String> {
     row.files.iter().try_for_each(|file| agreed_check(file))?;
-    Ok(line(vec![row.what.clone()], 1, &mean(row, &sides::checking(), rounds, check_time)))
+    Ok(line(vec![row.what.clone()], 2, &mean(row, &sides::checking(), rounds, check_time)))
 }
 
 /// A line of the third table: jobs of one length, a thousand events' part of their time.
@@ -92,7 +96,7 @@ fn grown(row: &Row, rounds: u64) -> Result<String, String> {
     let times = mean(row, &sides::judging(), rounds, judging_time);
     let thousands = events_of(&row.files[0]) as f64 / 1000.0;
     let part: Vec<f64> = times.iter().map(|time| time / thousands).collect();
-    Ok(line(vec![row.what.clone(), row.files.len().to_string()], 2, &part))
+    Ok(line(vec![row.what.clone(), row.files.len().to_string()], 3, &part))
 }
 
 /// Each side's mean over the jobs of its best times, in microseconds.

@@ -1,20 +1,30 @@
-//! The sides that are timed: both Rust programs and, with the feature `rattle`, the library, behind the calls of the C interface.
+//! The sides that are timed: three Rust programs and, with the feature `rattle`, the library, behind the calls of the C interface.
 
 use crate::check::{check, Accepted};
-use crate::order::{grow, ENDS, MARKED, PLAIN};
-use crate::rival;
+use crate::order::{self, grow};
+use crate::{rival, tuned};
 use compare::calls::{judged, refused, Calls, Second};
-use second::{LABELS, LINKS, PLACES};
+use second::{Judged, Refusal, LABELS, LINKS, PLACES};
 
-/// The Rust program whose orders are of a kind, with the second program's writing and question.
-pub struct Rival<const KIND: u8>;
+type Check = fn(&[u8]) -> Result<Accepted, Refusal>;
+type Judge = fn(&[u8], u64, &mut [u64], &mut [u16], &mut [u32]) -> Result<Judged, Refusal>;
 
-impl<const KIND: u8> Calls for Rival<KIND> {
+/// A Rust program, with the second program's writing and question.
+pub struct Program {
+    check: Check,
+    judge: Judge,
+}
+
+pub static PLAIN: Program = Program { check, judge: rival::judge::<{ order::PLAIN }> };
+pub static MARKED: Program = Program { check, judge: rival::judge::<{ order::MARKED }> };
+pub static TUNED: Program = Program { check: tuned::check, judge: tuned::judge };
+
+impl Calls for Program {
     fn read(&self, file: &[u8]) -> [u64; 6] {
         let numbers = |Accepted { start, count, records }: Accepted| {
             [0, 0, start, start, 4 * count, records].map(|number| number as u64)
         };
-        check(file).map_or_else(refused, numbers)
+        (self.check)(file).map_or_else(refused, numbers)
     }
 
     fn write(&self, name: &[u8], records: u64, events: &[u8], out: &mut [u8]) -> [u64; 3] {
@@ -26,7 +36,7 @@ impl<const KIND: u8> Calls for Rival<KIND> {
     }
 
     fn judge(&self, file: &[u8], k: u64, labels: &mut [u64], links: &mut [u16], places: &mut [u32]) -> [u64; 9] {
-        rival::judge::<KIND>(file, k, labels, links, places).map_or_else(refused, judged)
+        (self.judge)(file, k, labels, links, places).map_or_else(refused, judged)
     }
 }
 
@@ -44,21 +54,21 @@ fn library() -> Option<(&'static dyn Calls, Grow)> {
     None
 }
 
-/// The sides that judge: plain, marked and, if it is there, the library.
+/// The sides that judge: plain, marked, tuned and, if it is there, the library.
 pub fn judging() -> Vec<&'static dyn Calls> {
-    let rivals: [&dyn Calls; 2] = [&Rival::<PLAIN>, &Rival::<ENDS>];
-    rivals.into_iter().chain(library().map(|(library, _)| library)).collect()
+    let programs: [&dyn Calls; 3] = [&PLAIN, &MARKED, &TUNED];
+    programs.into_iter().chain(library().map(|(library, _)| library)).collect()
 }
 
-/// The sides that check a file; the check of both Rust programs is one.
+/// The sides that check a file; plain and marked have one check.
 pub fn checking() -> Vec<&'static dyn Calls> {
     judging().split_off(1)
 }
 
 /// The sides that grow an order.
 pub fn growing() -> Vec<Grow> {
-    let rivals: [Grow; 3] = [grow::<PLAIN>, grow::<MARKED>, grow::<ENDS>];
-    rivals.into_iter().chain(library().map(|(_, grow)| grow)).collect()
+    let orders: [Grow; 3] = [grow::<{ order::PLAIN }>, grow::<{ order::MARKED }>, grow::<{ order::ENDS }>];
+    orders.into_iter().chain(library().map(|(_, grow)| grow)).collect()
 }
 
 /// The work buffers of one side.

@@ -1,8 +1,7 @@
-//! The programs of equal method as further witnesses: they agree with the second program, and the timed jobs are what they should be.
+//! The Rust programs as further witnesses: they agree with the second program, and the timed jobs are what they should be.
 
 use bench::jobs;
-use bench::order::{MARKED, PLAIN};
-use bench::sides::{events_of, Buffers, Rival};
+use bench::sides::{events_of, Buffers, MARKED, PLAIN, TUNED};
 use compare::calls::{Calls, Second};
 use compare::differ::Sides;
 use compare::files::{generated, limits};
@@ -10,8 +9,8 @@ use compare::random::Random;
 use compare::tally::Tally;
 
 /// On the files at the limits and on some generated ones.
-fn agrees_with_the_second_program(rival: &dyn Calls) {
-    let mut sides = Sides { one: &Second, other: rival, tally: Tally::default() };
+fn agrees_with_the_second_program(program: &dyn Calls) {
+    let mut sides = Sides { one: &Second, other: program, tally: Tally::default() };
     for (number, (what, file)) in limits().iter().enumerate() {
         assert_eq!(sides.difference(&mut Random::of_file(3, number as u64), file), None, "{what}");
     }
@@ -28,12 +27,17 @@ fn agrees_with_the_second_program(rival: &dyn Calls) {
 
 #[test]
 fn the_plain_one_agrees_with_the_second_program() {
-    agrees_with_the_second_program(&Rival::<PLAIN>);
+    agrees_with_the_second_program(&PLAIN);
 }
 
 #[test]
 fn the_marked_one_agrees_with_the_second_program() {
-    agrees_with_the_second_program(&Rival::<MARKED>);
+    agrees_with_the_second_program(&MARKED);
+}
+
+#[test]
+fn the_tuned_one_agrees_with_the_second_program() {
+    agrees_with_the_second_program(&TUNED);
 }
 
 #[test]
@@ -63,6 +67,6 @@ fn growing_jobs_have_their_length_and_are_clean() {
 
 /// The strands of a job, unless it is refused or races.
 fn strands_if_clean(file: &[u8]) -> Option<u64> {
-    let answer = Buffers::used().judge(&Rival::<PLAIN>, file);
+    let answer = Buffers::used().judge(&PLAIN, file);
     (answer[0] == 0 && answer[2] == 0).then_some(answer[6])
 }
