@@ -1,9 +1,10 @@
 //! The jobs that are timed. None of them races: judging would stop early, and little would be timed.
 
-use crate::sides::events_of;
-use compare::jobs::{events, Draft, Shape};
+use crate::check::check;
+use compare::jobs::{any_access, events, Draft, Shape};
 use compare::random::Random;
 use compare::script::{END, SPAWN, SYNC};
+use std::iter::repeat_with;
 
 /// The lengths of the jobs that show how time grows.
 const LENGTHS: [usize; 6] = [1_000, 4_000, 16_000, 64_000, 256_000, 1_000_000];
@@ -55,21 +56,36 @@ pub fn orders(seed: u64, jobs: usize) -> Vec<Row> {
     ]
 }
 
-/// Deep jobs of exactly so many events, for each length; more of the short ones. A long job has more accesses to a strand: else its
-/// strands would be used up early, and all the rest be reads of the few records that the root owns.
+/// Jobs of exactly so many events, for each length; more of the short ones.
 pub fn growth(seed: u64) -> impl Iterator<Item = Row> {
     LENGTHS.into_iter().map(move |length| {
-        let accesses = DEEP.accesses * length.div_ceil(DEEP.events);
-        let files = generated(seed, Shape { events: length, accesses, ..DEEP });
-        let exact = files.filter(|file| events_of(file) == length as u64);
-        Row::new(&length.to_string(), exact.take((200_000 / length).clamp(3, 100)).collect())
+        let files = (0..).filter_map(|number| grown(&mut Random::of_file(seed, number), length));
+        Row::new(&length.to_string(), files.take((200_000 / length).clamp(3, 100)).collect())
     })
+}
+
+/// A job of so many events: up to 16,000 a deep one. The 16,000th event of a longer job is a sync that leaves nothing to be joined, and
+/// past it the root accesses records drawn from all, which cannot race. None if the deep part came out longer, or has no strand left
+/// for its sync.
+fn grown(random: &mut Random, length: usize) -> Option<Vec<u8>> {
+    let longer = length > DEEP.events;
+    let deep = length.min(DEEP.events) - usize::from(longer);
+    let mut events = events(random, &Shape { events: deep, ..DEEP });
+    if events.len() != deep {
+        return None;
+    }
+    if longer {
+        events.push(SYNC);
+        events.extend(repeat_with(|| any_access(random, &DEEP)).take(length - DEEP.events));
+    }
+    Some(file(events, &DEEP)).filter(|file| check(file).is_ok())
 }
 
 /// The files of a seed and a shape.
 fn generated(seed: u64, shape: Shape) -> impl Iterator<Item = Vec<u8>> {
-    (0..).map(move |number| {
-        let events = events(&mut Random::of_file(seed, number), &shape);
-        Draft::new(b"timed".to_vec(), shape.records as u32, events).file()
-    })
+    (0..).map(move |number| file(events(&mut Random::of_file(seed, number), &shape), &shape))
+}
+
+fn file(events: Vec<[u8; 4]>, shape: &Shape) -> Vec<u8> {
+    Draft::new(b"timed".to_vec(), shape.records as u32, events).file()
 }

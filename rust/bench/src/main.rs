@@ -13,7 +13,7 @@ const USAGE: &str = "usage: bench [--seed N] [--jobs N] [--rounds N] [--short]
   --seed N    which jobs are made (1)
   --jobs N    how many jobs of about 16,000 events (1000)
   --rounds N  how often each is timed; the best time of each job counts (9)
-  --short     few jobs and rounds (200 and 9)";
+  --short     few jobs and rounds (150 and 9)";
 
 /// The columns of the sides that judge, and of the library's time over that of each program.
 const JUDGES: [&str; 7] = ["plain", "marked", "tuned", "library", "to plain", "to marked", "to tuned"];
@@ -45,7 +45,7 @@ fn options(mut arguments: impl Iterator<Item = String>) -> Result<Options, Strin
             "--seed" => options.seed = number()?,
             "--jobs" => options.jobs = number()?,
             "--rounds" => options.rounds = number()?,
-            "--short" => (options.jobs, options.rounds) = (200, 9),
+            "--short" => (options.jobs, options.rounds) = (150, 9),
             _ => return Err(format!("{flag}: no such flag\n{USAGE}")),
         }
     }
@@ -67,7 +67,7 @@ fn run(options: &Options) -> Result<(), String> {
     for row in &whole {
         println!("{}", checked(row, rounds)?);
     }
-    println!("\ndeep jobs; microseconds a thousand events\n");
+    println!("\ndeep jobs, past 16,000 events accesses only; microseconds a thousand events\n");
     println!("{}", head(&[&["events", "count"], &JUDGES[..]].concat()));
     for row in growth(seed) {
         println!("{}", grown(&row, rounds)?);

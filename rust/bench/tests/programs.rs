@@ -1,7 +1,8 @@
 //! The Rust programs as further witnesses: they agree with the second program, and the timed jobs are what they should be.
 
+use bench::check::check;
 use bench::jobs;
-use bench::sides::{events_of, Buffers, MARKED, PLAIN, TUNED};
+use bench::sides::{Buffers, MARKED, PLAIN, TUNED};
 use compare::calls::{Calls, Second};
 use compare::differ::Sides;
 use compare::files::{generated, limits};
@@ -60,8 +61,13 @@ fn growing_jobs_have_their_length_and_are_clean() {
     assert_eq!(rows.len(), lengths.len());
     for (row, length) in rows.iter().zip(lengths) {
         assert!(row.files.len() >= 3, "{length}");
-        assert!(row.files.iter().all(|file| events_of(file) == length), "{length}");
-        assert!(row.files.iter().all(|file| strands_if_clean(file) > Some(100)), "{length}");
+        for file in &row.files {
+            let accepted = check(file).unwrap();
+            assert_eq!(accepted.count, length);
+            let past_deep = accepted.events(file, length).iter().skip(16_000);
+            assert!(past_deep.copied().all(|[kind, ..]| kind >= 4), "{length}");
+            assert!(strands_if_clean(file) > Some(100), "{length}");
+        }
     }
 }
 
