@@ -4,6 +4,7 @@
 pub mod check;
 pub mod event;
 pub mod jobs;
+pub mod kind;
 pub mod order;
 pub mod rival;
 pub mod sides;

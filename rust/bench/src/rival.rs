@@ -1,13 +1,14 @@
-//! The Rust program of equal method: one pass to check the file, one to judge it, in which each kind of event has a function of its
-//! own. The kind of the orders makes two programs of it, plain and marked.
+//! The Rust program of equal method, as C-24 has it: ordinary slices and vectors, one pass to check the file, one to judge it, in which
+//! each kind of event has a function of its own. The mark of the orders makes two programs of it, plain and marked.
 
 use crate::check::check;
 use crate::event::{decode_checked, Event};
-use crate::state::{State, NO_STRAND, READS, WRITES};
+use crate::kind::Ordinary;
+use crate::state::{race, State, NO_STRAND, READS, WRITES};
 use second::{Judged, Race, Refusal};
 
-/// Judges the first k events of a file, or fewer if a race is met.
-pub fn judge<const KIND: u8>(
+/// Judges the first k events of a file, or fewer if a race is met. Plain is without the mark.
+pub fn judge<const MARKED: bool>(
     file: &[u8],
     k: u64,
     labels: &mut [u64],
@@ -15,12 +16,12 @@ pub fn judge<const KIND: u8>(
     places: &mut [u32],
 ) -> Result<Judged, Refusal> {
     let accepted = check(file)?;
-    let mut state = State::<KIND>::root(accepted, k, labels, links, places)?;
+    let mut state = State::<Ordinary<MARKED>>::root(accepted, k, labels, links, places)?;
     let race = state.run(accepted.events(file, k as usize)).err();
     Ok(state.judged(race))
 }
 
-impl<const KIND: u8> State<'_, KIND> {
+impl<const MARKED: bool> State<'_, Ordinary<MARKED>> {
     /// Takes the events, which were checked, up to the first race.
     fn run(&mut self, events: &[[u8; 4]]) -> Result<(), Race> {
         for (at, &bytes) in events.iter().enumerate() {
@@ -65,7 +66,7 @@ impl<const KIND: u8> State<'_, KIND> {
 
     fn read(&mut self, at: usize, record: usize) -> Result<(), Race> {
         if self.parallel(self.places[WRITES + 1][record]) {
-            return Err(self.race(WRITES, record, at, false));
+            return Err(race(self.places[WRITES][record], at, record, [true, false]));
         }
         if !self.parallel(self.places[READS + 1][record]) {
             self.store(READS, record, at);
@@ -77,7 +78,8 @@ impl<const KIND: u8> State<'_, KIND> {
         let wrote = self.parallel(self.places[WRITES + 1][record]);
         let standing = self.parallel(self.places[READS + 1][record]);
         if wrote | standing {
-            return Err(self.race(if wrote { WRITES } else { READS }, record, at, true));
+            let first = if wrote { self.places[WRITES][record] } else { self.places[READS][record] };
+            return Err(race(first, at, record, [wrote, true]));
         }
         self.store(WRITES, record, at);
         Ok(())

@@ -1,7 +1,8 @@
 //! The sides that are timed: three Rust programs and, with the feature `rattle`, the library, behind the calls of the C interface.
 
 use crate::check::{check, Accepted};
-use crate::order::{self, grow};
+use crate::kind::{Marked, Plain, Tuned};
+use crate::order::grow;
 use crate::{rival, tuned};
 use compare::calls::{judged, refused, Calls, Second};
 use second::{Judged, Refusal, LABELS, LINKS, PLACES};
@@ -15,8 +16,8 @@ pub struct Program {
     judge: Judge,
 }
 
-pub static PLAIN: Program = Program { check, judge: rival::judge::<{ order::PLAIN }> };
-pub static MARKED: Program = Program { check, judge: rival::judge::<{ order::MARKED }> };
+pub static PLAIN: Program = Program { check, judge: rival::judge::<false> };
+pub static MARKED: Program = Program { check, judge: rival::judge::<true> };
 pub static TUNED: Program = Program { check: tuned::check, judge: tuned::judge };
 
 impl Calls for Program {
@@ -67,7 +68,7 @@ pub fn checking() -> Vec<&'static dyn Calls> {
 
 /// The sides that grow an order.
 pub fn growing() -> Vec<Grow> {
-    let orders: [Grow; 3] = [grow::<{ order::PLAIN }>, grow::<{ order::MARKED }>, grow::<{ order::ENDS }>];
+    let orders: [Grow; 3] = [grow::<Plain>, grow::<Marked>, grow::<Tuned>];
     orders.into_iter().chain(library().map(|(_, grow)| grow)).collect()
 }
 

@@ -1,10 +1,11 @@
 //! The state of judging: two orders, cells for the open tasks, and two places for each record.
 
-use crate::check::{refused, Accepted, MOST_OPEN};
+use crate::check::{refused, Accepted};
+use crate::kind::Kind;
 use crate::order::Order;
-use second::{Judged, Race, Refusal};
+use second::{Judged, Race, Refusal, LABELS, LINKS, PLACES};
 
-const RECORDS: usize = 4096;
+pub const RECORDS: usize = 4096;
 const NO_PLACE: u32 = u32::MAX;
 /// Which part of the places has the events of last writes, and which those of standing reads. The part behind each has their strands.
 pub const WRITES: usize = 0;
@@ -13,17 +14,17 @@ pub const NO_STRAND: usize = usize::MAX;
 
 /// For each open task: the strand that is last of those before the current point, which is the task's own current one; and the
 /// strand that is last of those still to be joined, or none.
-pub struct State<'a, const KIND: u8> {
-    pub english: Order<'a, KIND>,
-    pub hebrew: Order<'a, KIND>,
-    pub places: &'a mut [[u32; RECORDS]; 4],
+pub struct State<'a, K: Kind> {
+    pub english: Order<'a, K>,
+    pub hebrew: Order<'a, K>,
+    pub places: K::Places<'a>,
     pub strands: usize,
-    pub last: [usize; MOST_OPEN],
-    pub joining: [usize; MOST_OPEN],
+    pub last: K::Cells,
+    pub joining: K::Cells,
     pub current: usize,
 }
 
-impl<'a, const KIND: u8> State<'a, KIND> {
+impl<'a, K: Kind> State<'a, K> {
     /// The state before any event of a file, k of which are to be judged.
     pub fn root(
         accepted: Accepted,
@@ -31,25 +32,25 @@ impl<'a, const KIND: u8> State<'a, KIND> {
         labels: &'a mut [u64],
         links: &'a mut [u16],
         places: &'a mut [u32],
-    ) -> Result<State<'a, KIND>, Refusal> {
+    ) -> Result<State<'a, K>, Refusal> {
         if k > accepted.count as u64 {
             return refused(15);
         }
-        let [english, hebrew, ..] = labels.as_chunks_mut().0 else { return refused(14) };
-        let [english_next, english_back, hebrew_next, hebrew_back, ..] = links.as_chunks_mut().0 else {
+        if labels.len() < LABELS || links.len() < LINKS || places.len() < PLACES {
             return refused(14);
-        };
-        let Some(places) = places.as_chunks_mut().0.first_chunk_mut() else { return refused(14) };
-        for part in places.iter_mut() {
+        }
+        let (english, labels, links) = Order::root(labels, links);
+        let (hebrew, ..) = Order::root(labels, links);
+        for part in places[..PLACES].chunks_mut(RECORDS) {
             part[..accepted.records].fill(NO_PLACE);
         }
         Ok(State {
-            english: Order::root(english, english_next, english_back),
-            hebrew: Order::root(hebrew, hebrew_next, hebrew_back),
-            places,
+            english,
+            hebrew,
+            places: K::places(places),
             strands: 1,
-            last: [0; MOST_OPEN],
-            joining: [NO_STRAND; MOST_OPEN],
+            last: K::cells(0),
+            joining: K::cells(NO_STRAND),
             current: 0,
         })
     }
@@ -69,14 +70,13 @@ impl<'a, const KIND: u8> State<'a, KIND> {
         self.hebrew.labels[strand] > self.hebrew.labels[current]
     }
 
-    /// The race of an access with the one in a place.
-    pub fn race(&self, part: usize, record: usize, at: usize, write: bool) -> Race {
-        let first = u64::from(self.places[part][record]);
-        Race { first, second: at as u64, record: record as u64, writes: [part == WRITES, write] }
-    }
-
     /// What comes back.
     pub fn judged(&self, race: Option<Race>) -> Judged {
         Judged { race, strands: self.strands as u64, english: self.english.count, hebrew: self.hebrew.count }
     }
+}
+
+/// The race of two accesses to a record: their events, and which of them write.
+pub fn race(first: u32, second: usize, record: usize, writes: [bool; 2]) -> Race {
+    Race { first: u64::from(first), second: second as u64, record: record as u64, writes }
 }

@@ -1,10 +1,12 @@
-//! The tuned Rust program: how far one can go beyond the equal method. What it does that plain and marked do not: it decodes no event
-//! but works on numbers of 32 bits; spawn, end and sync take one path without branches, which rests on the order in which strands
-//! begin, and so do read and write; what a read leaves is selected; and its orders are respaced from both ends at once.
+//! The tuned Rust program: how far one can go beyond the equal method. What it does that plain and marked do not: its buffers are arrays
+//! of known length; it decodes no event but works on numbers of 32 bits, which judging does not check again; spawn, end and sync take
+//! one path without branches, which rests on the order in which strands begin, and so do read and write; what a read leaves is
+//! selected; and its orders are respaced from both ends at once.
 
 use crate::check::{check_by, refused, Accepted, MOST_OPEN};
-use crate::order::{ENDS, STRANDS};
-use crate::state::{State, NO_STRAND, READS, WRITES};
+use crate::kind::Tuned;
+use crate::order::STRANDS;
+use crate::state::{race, State, NO_STRAND, READS, WRITES};
 use second::{Judged, Race, Refusal};
 use std::hint::select_unpredictable;
 
@@ -77,7 +79,7 @@ pub fn judge(
 
 // Branches that could not be foreseen are left out: which of spawn, end and sync an event is, whether it reads or writes, whether a
 // place is empty, and whether a read comes to stand.
-impl State<'_, ENDS> {
+impl State<'_, Tuned> {
     /// Takes the events, which were checked, up to the first race, which is given.
     fn take(&mut self, events: &[[u8; 4]]) -> Option<Race> {
         for (at, &bytes) in events.iter().enumerate() {
@@ -116,7 +118,8 @@ impl State<'_, ENDS> {
         let wrote = self.parallel(self.places[WRITES + 1][record]);
         let standing = self.parallel(self.places[READS + 1][record]);
         if wrote | (write & standing) {
-            return Some(self.race(if wrote { WRITES } else { READS }, record, at, write));
+            let first = self.places[if wrote { WRITES } else { READS }][record];
+            return Some(race(first, at, record, [wrote, write]));
         }
         let part = if write { WRITES } else { READS };
         let (event, strand) = (self.places[part][record], self.places[part + 1][record]);
