@@ -1,8 +1,8 @@
 //! The Rust program of equal method, as C-24 has it: ordinary slices and vectors, one pass to check the file, one to judge it, in which
-//! each kind of event has a function of its own. The mark of the orders makes two programs of it, plain and marked.
+//! each kind of event has a function of its own. Both decode alike. The mark of the orders makes two programs of it, plain and marked.
 
 use crate::check::check;
-use crate::event::{decode_checked, Event};
+use crate::event::{decode, Event};
 use crate::kind::Ordinary;
 use crate::state::{race, State, NO_STRAND, READS, WRITES};
 use second::{Judged, Race, Refusal};
@@ -25,12 +25,12 @@ impl<const MARKED: bool> State<'_, Ordinary<MARKED>> {
     /// Takes the events, which were checked, up to the first race.
     fn run(&mut self, events: &[[u8; 4]]) -> Result<(), Race> {
         for (at, &bytes) in events.iter().enumerate() {
-            match decode_checked(bytes) {
-                Event::Read(record) => self.read(at, record)?,
-                Event::Write(record) => self.write(at, record)?,
+            match decode(bytes).expect("checked") {
                 Event::Spawn => self.spawn(),
                 Event::End => self.end(),
                 Event::Sync => self.sync(),
+                Event::Read(record) => self.read(at, record)?,
+                Event::Write(record) => self.write(at, record)?,
             }
         }
         Ok(())
