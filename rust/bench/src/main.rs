@@ -1,17 +1,22 @@
-//! Times judging by the Rust program of equal method and, with the feature `rattle`, by the library, and prints a table.
+//! Times judging and the check by the three Rust programs and, with the feature `rattle`, by the library, and prints three tables:
+//! judging, the check alone, and how time grows with the number of events.
 
-use bench::jobs::{judging, orders, Row};
-use bench::rival;
-use compare::calls::{judged, refused};
-use second::{LABELS, LINKS, PLACES};
+use bench::jobs::{growth, judging, orders, Row};
+use bench::sides::{self, events_of, Buffers};
+use bench::turns::{best, head, line};
+use compare::calls::Calls;
 use std::hint::black_box;
 use std::process::ExitCode;
 use std::time::{Duration, Instant};
 
-const USAGE: &str = "usage: bench [--seed N] [--jobs N] [--rounds N]
+const USAGE: &str = "usage: bench [--seed N] [--jobs N] [--rounds N] [--short]
   --seed N    which jobs are made (1)
   --jobs N    how many jobs of about 16,000 events (1000)
-  --rounds N  how often each is judged; the best time of each job counts (5)";
+  --rounds N  how often each is timed; the best time of each job counts (9)
+  --short     few jobs and rounds (150 and 9)";
+
+/// The columns of the sides that judge, and of the library's time over that of each program.
+const JUDGES: [&str; 7] = ["plain", "marked", "tuned", "library", "to plain", "to marked", "to tuned"];
 
 struct Options {
     seed: u64,
@@ -19,12 +24,8 @@ struct Options {
     rounds: u64,
 }
 
-/// A side that judges a whole file and gives the numbers of the C interface.
-type Judge = fn(&[u8], u64, &mut [u64], &mut [u16], &mut [u32]) -> [u64; 9];
-
 fn main() -> ExitCode {
-    let arguments: Vec<String> = std::env::args().skip(1).collect();
-    match options(&arguments).and_then(|options| run(&options)) {
+    match options(std::env::args().skip(1)).and_then(|options| run(&options)) {
         Ok(()) => ExitCode::SUCCESS,
         Err(wrong) => {
             eprintln!("bench: {wrong}");
@@ -33,91 +34,121 @@ fn main() -> ExitCode {
     }
 }
 
-fn options(arguments: &[String]) -> Result<Options, String> {
-    let mut options = Options { seed: 1, jobs: 1000, rounds: 5 };
-    for pair in arguments.chunks(2) {
-        let [flag, value] = pair else { return Err(format!("{} needs a value\n{USAGE}", pair[0])) };
-        let number = value.parse().map_err(|_| format!("{flag} {value}: no whole number"))?;
+fn options(mut arguments: impl Iterator<Item = String>) -> Result<Options, String> {
+    let mut options = Options { seed: 1, jobs: 1000, rounds: 9 };
+    while let Some(flag) = arguments.next() {
+        let mut number = || {
+            let value = arguments.next().ok_or(format!("{flag} needs a value\n{USAGE}"))?;
+            value.parse().map_err(|_| format!("{flag} {value}: no whole number"))
+        };
         match flag.as_str() {
-            "--seed" => options.seed = number,
-            "--jobs" => options.jobs = number,
-            "--rounds" => options.rounds = number,
+            "--seed" => options.seed = number()?,
+            "--jobs" => options.jobs = number()?,
+            "--rounds" => options.rounds = number()?,
+            "--short" => (options.jobs, options.rounds) = (150, 9),
             _ => return Err(format!("{flag}: no such flag\n{USAGE}")),
         }
     }
     Ok(options)
 }
 
-fn by_rust(file: &[u8], k: u64, labels: &mut [u64], links: &mut [u16], places: &mut [u32]) -> [u64; 9] {
-    rival::judge(file, k, labels, links, places).map_or_else(refused, judged)
-}
-
-#[cfg(feature = "rattle")]
-fn library() -> Option<Judge> {
-    use compare::calls::Calls;
-    Some(|file, k, labels, links, places| compare::ffi::Library.judge(file, k, labels, links, places))
-}
-
-#[cfg(not(feature = "rattle"))]
-fn library() -> Option<Judge> {
-    None
-}
-
 fn run(options: &Options) -> Result<(), String> {
-    let library = library();
-    println!("seed {} jobs {} rounds {}; microseconds a job", options.seed, options.jobs, options.rounds);
-    println!("| jobs | count | events | strands | Rust | library | ratio |");
-    println!("|---|---|---|---|---|---|---|");
-    for row in judging(options.seed, options.jobs as usize).iter().chain(&orders(options.seed, 20)) {
-        println!("{}", line(row, library, options.rounds)?);
+    let Options { seed, jobs, rounds } = *options;
+    println!("seed {seed} jobs {jobs} rounds {rounds}; microseconds a job\n");
+    let whole = judging(seed, jobs as usize);
+    println!("{}", head(&[&["jobs", "count", "events", "strands"], &JUDGES[..]].concat()));
+    for row in whole.iter().chain(&orders(seed, 20)) {
+        println!("{}", judged(row, rounds)?);
+    }
+    println!(
+        "\nthe check alone; microseconds a job\n\n{}",
+        head(&["jobs", "Rust", "tuned", "library", "to Rust", "to tuned"])
+    );
+    for row in &whole {
+        println!("{}", checked(row, rounds)?);
+    }
+    println!("\ndeep jobs, past 16,000 events accesses only; microseconds a thousand events\n");
+    println!("{}", head(&[&["events", "count"], &JUDGES[..]].concat()));
+    for row in growth(seed) {
+        println!("{}", grown(&row, rounds)?);
     }
     Ok(())
 }
 
-/// One line of the table.
-fn line(row: &Row, library: Option<Judge>, rounds: u64) -> Result<String, String> {
-    let count = row.files.len();
-    let mut total = [Duration::ZERO; 2];
-    let (mut events, mut strands) = (0, 0);
+/// A line of the first table: whole jobs.
+fn judged(row: &Row, rounds: u64) -> Result<String, String> {
+    let count = row.files.len() as u64;
+    let strands = row.files.iter().map(|file| agreed_judging(file)).sum::<Result<u64, String>>()? / count;
+    let events = row.files.iter().map(|file| events_of(file)).sum::<u64>() / count;
+    let what = vec![row.what.clone(), count.to_string(), events.to_string(), strands.to_string()];
+    Ok(line(what, 3, &mean(row, &sides::judging(), rounds, judging_time)))
+}
+
+/// A line of the second table: the check alone.
+fn checked(row: &Row, rounds: u64) -> Result<String, String> {
+    row.files.iter().try_for_each(|file| agreed_check(file))?;
+    Ok(line(vec![row.what.clone()], 2, &mean(row, &sides::checking(), rounds, check_time)))
+}
+
+/// A line of the third table: jobs of one length, a thousand events' part of their time.
+fn grown(row: &Row, rounds: u64) -> Result<String, String> {
+    row.files.iter().try_for_each(|file| agreed_judging(file).map(|_| ()))?;
+    let times = mean(row, &sides::judging(), rounds, judging_time);
+    let thousands = events_of(&row.files[0]) as f64 / 1000.0;
+    let part: Vec<f64> = times.iter().map(|time| time / thousands).collect();
+    Ok(line(vec![row.what.clone(), row.files.len().to_string()], 3, &part))
+}
+
+/// Each side's mean over the jobs of its best times, in microseconds.
+fn mean(row: &Row, sides: &[&dyn Calls], rounds: u64, time: fn(&dyn Calls, &[u8]) -> Duration) -> Vec<f64> {
+    let mut total = vec![Duration::ZERO; sides.len()];
     for file in &row.files {
-        let answer = agreed(file, library)?;
-        events += events_of(file);
-        strands += answer[6];
-        let mut best = [Duration::MAX; 2];
-        for _ in 0..rounds.max(1) {
-            best[0] = best[0].min(timed(by_rust, file));
-            best[1] = best[1].min(library.map_or(Duration::ZERO, |library| timed(library, file)));
+        let best = best(sides, rounds, |side| time(side, file));
+        total.iter_mut().zip(best).for_each(|(total, best)| *total += best);
+    }
+    total.iter().map(|sum| sum.as_secs_f64() * 1e6 / row.files.len() as f64).collect()
+}
+
+/// The strands of a file, about which all sides answer the same, clean, and leave the same in every entry of the buffers.
+fn agreed_judging(file: &[u8]) -> Result<u64, String> {
+    let mut outcomes = sides::judging().into_iter().map(|side| {
+        let mut buffers = Buffers::used();
+        (buffers.judge(side, file), buffers)
+    });
+    let Some((answer, buffers)) = outcomes.next() else { return Err("no side".to_string()) };
+    if answer[0] != 0 || answer[2] != 0 {
+        return Err(format!("a timed job is not clean: {answer:?}"));
+    }
+    for (other, others) in outcomes {
+        if other != answer {
+            return Err(format!("the sides differ: {answer:?} and {other:?}"));
         }
-        total = [total[0] + best[0], total[1] + best[1]];
+        if others != buffers {
+            return Err("the sides leave different buffers".to_string());
+        }
     }
-    let a_job = |sum: Duration| sum.as_secs_f64() * 1e6 / count as f64;
-    let (rust, rattle) = (a_job(total[0]), a_job(total[1]));
-    let (events, strands) = (events / count as u64, strands / count as u64);
-    let shown = |number: String| if library.is_some() { number } else { "-".to_string() };
-    let (rattle, ratio) = (shown(format!("{rattle:.1}")), shown(format!("{:.3}", rattle / rust)));
-    Ok(format!("| {} | {count} | {events} | {strands} | {rust:.1} | {rattle} | {ratio} |", row.what))
+    Ok(answer[6])
 }
 
-/// The answer of both sides about a file: clean, and the same.
-fn agreed(file: &[u8], library: Option<Judge>) -> Result<[u64; 9], String> {
-    let whole =
-        |judge: Judge| judge(file, events_of(file), &mut vec![0; LABELS], &mut vec![0; LINKS], &mut vec![0; PLACES]);
-    let answer = whole(by_rust);
-    match library.map(whole) {
-        _ if answer[0] != 0 || answer[2] != 0 => Err(format!("a timed job is not clean: {answer:?}")),
-        Some(other) if other != answer => Err(format!("the sides differ: {answer:?} and {other:?}")),
-        _ => Ok(answer),
+/// All sides accept a file and answer the same.
+fn agreed_check(file: &[u8]) -> Result<(), String> {
+    let answers: Vec<[u64; 6]> = sides::checking().iter().map(|side| side.read(file)).collect();
+    if answers.iter().any(|answer| answer[0] != 0 || *answer != answers[0]) {
+        return Err(format!("a timed job is refused or the sides differ: {answers:?}"));
     }
+    Ok(())
 }
 
-/// The time of judging a whole file; the buffers are made and cleared outside it.
-fn timed(judge: Judge, file: &[u8]) -> Duration {
-    let (mut labels, mut links, mut places) = (vec![1; LABELS], vec![1; LINKS], vec![1; PLACES]);
+/// The time of judging a whole file; the buffers are made outside it.
+fn judging_time(side: &dyn Calls, file: &[u8]) -> Duration {
+    let mut buffers = Buffers::used();
     let start = Instant::now();
-    black_box(judge(black_box(file), events_of(file), &mut labels, &mut links, &mut places));
+    black_box(buffers.judge(side, black_box(file)));
     start.elapsed()
 }
 
-fn events_of(file: &[u8]) -> u64 {
-    file.last_chunk::<12>().map_or(0, |tail| u64::from(u32::from_le_bytes([tail[0], tail[1], tail[2], tail[3]])))
+fn check_time(side: &dyn Calls, file: &[u8]) -> Duration {
+    let start = Instant::now();
+    black_box(side.read(black_box(file)));
+    start.elapsed()
 }

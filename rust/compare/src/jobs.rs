@@ -138,7 +138,8 @@ fn sync(script: &mut Script, owners: &mut Owners) {
     }
 }
 
-fn any_access(random: &mut Random, shape: &Shape) -> [u8; 4] {
+/// An access of any record, which may race.
+pub fn any_access(random: &mut Random, shape: &Shape) -> [u8; 4] {
     let record = random.below(shape.records) as u16;
     if random.percent(shape.writes) {
         write(record)
