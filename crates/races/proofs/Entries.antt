@@ -8,12 +8,12 @@ use mathlib.Core.Option.{Option}
 use Prim.Native.Nat.{ℕ, _+_, _≤_, _<_}
 use native.Mathlib.Omega.{arith}
 use lib.Dec.{eqb}
-use lib.ListN.{length, getD, length-set}
+use lib.ListN.{length, getD, set, length-set}
 use lib.Seq.{getD-set-same, getD-set-other, lt-length-set}
 use borrow.Author.Tests.{eqb-true, eqb-false}
 use Rattle.jobfile.specs.declared.coding.Event.{Event}
 use Rattle.races.specs.Shown.{eventOr, strandOr}
-use Rattle.races.specs.Entries.{put}
+use Rattle.races.specs.Entries.{put, Emptied}
 
 module _ (P : List ℕ) (p event strand : ℕ) where
   pub put-length : length (put P p event strand) ≡ length P
@@ -32,6 +32,27 @@ module _ (P : List ℕ) (p event strand : ℕ) where
   pub put-other : (i : ℕ) → i ≢ p → i ≢ p + 4096 → getD (put P p event strand) i 0 ≡ getD P i 0
   unfolding put
   put-other i h h′ = simp getD-set-other
+
+-- entries emptied one after the other
+module _ (from : ℕ) (P : List ℕ) where
+  pub none-emptied : Emptied from 0 P P
+  none-emptied = record { none = λ r l. absurd (omega arith); others = λ i o. refl; size = refl }
+
+  pub one-emptied : (n : ℕ) (Q : List ℕ) → Emptied from n P Q → from + n < length Q → Emptied from (n + 1) P (set Q (from + n) 4294967295)
+  one-emptied n Q E room = record {
+    none = λ r l. at r l (eqb r n) refl;
+    others = λ i o.
+        let d : i ≢ from + n = o n (omega arith) in
+        (simp getD-set-other) ∙ E .others i (λ r l. o r (omega arith));
+    size = length-set Q (from + n) 4294967295 ∙ E .size;
+  }
+    where
+      at : (r : ℕ) → r < n + 1 → (t : Bool) → eqb r n ≡ t → getD (set Q (from + n) 4294967295) (from + r) 0 ≡ 4294967295
+      at r l true q = rw (eqb-true r n q) (simp getD-set-same)
+      at r l false q =
+          let d : r ≢ n = eqb-false r n q in
+          let e : from + r ≢ from + n = omega arith in
+          simp getD-set-other (E .none r (omega arith))
 
 module _ (ev : ℕ → Event) where
   -- record q's place of the row holds what `held q` says; the row's events begin at `from`

@@ -19,7 +19,7 @@ use Rattle.relation.specs.Strand.{strandAt}
 use Rattle.races.specs.Race.{other, accessOf}
 use Rattle.races.specs.Places.{holds, stood, parTo, lastWrite, standing}
 use Rattle.races.specs.Shown.{Shown, Judgeable}
-use Rattle.races.specs.Entries.{put}
+use Rattle.races.specs.Entries.{put, Emptied}
 use Rattle.races.proofs.Places.{Kept, last-write-next, standing-next, other-keeps, elsewhere-keeps, write-takes, read-takes, no-write-yet, no-read-yet}
 use Rattle.races.proofs.Entries.{put-length, put-other, Row, row-put, row-apart, row-same}
 
@@ -103,37 +103,21 @@ module _ (ev : ℕ → Event) where
           (within 4096 records i))
           (within 0 records i)
 
-  -- emptied places show that no event has happened: none emptied yet, and one record more
-  pub none-emptied : (P : List ℕ) → Shown ev 0 0 P P
-  none-emptied P = record {
-    write = λ r l. absurd (omega arith);
-    write-strand = λ r l. absurd (omega arith);
-    read = λ r l. absurd (omega arith);
-    read-strand = λ r l. absurd (omega arith);
-    others = λ i o. refl;
-    size = refl;
+  -- emptied places show that no event has happened
+  pub all-emptied : (records : ℕ) (P P₁ P₂ P₃ P₄ : List ℕ) → records ≤ 4096 → Emptied 0 records P P₁ → Emptied 4096 records P₁ P₂
+      → Emptied 8192 records P₂ P₃ → Emptied 12288 records P₃ P₄ → Shown ev 0 records P P₄
+  all-emptied records P P₁ P₂ P₃ P₄ few A B C D = record {
+    write = λ r l.
+        rw (no-write-yet ev r) (D .others r (λ q m e. omega arith) ∙ C .others r (λ q m e. omega arith) ∙ B .others r (λ q m e. omega arith)
+        ∙ (rw zero-add at (A .none r l)));
+    write-strand = λ r l. rw (no-write-yet ev r) (D .others (4096 + r) (λ q m e. omega arith) ∙ C .others (4096 + r) (λ q m e. omega arith) ∙ B .none r l);
+    read = λ r l. rw (no-read-yet ev r) (D .others (8192 + r) (λ q m e. omega arith) ∙ C .none r l);
+    read-strand = λ r l. rw (no-read-yet ev r) (D .none r l);
+    others = λ i out.
+        D .others i (λ q m. out q m .3) ∙ C .others i (λ q m. out q m .2) ∙ B .others i (λ q m. out q m .1)
+        ∙ A .others i (λ q m e. out q m .0 (rw zero-add at e));
+    size = D .size ∙ C .size ∙ B .size ∙ A .size;
   }
-
-  pub one-emptied : (k : ℕ) (P₀ P : List ℕ) → Shown ev 0 k P₀ P → k < 4096 → 16384 ≤ length P₀
-      → Shown ev 0 (k + 1) P₀ (put (put P k 4294967295 4294967295) (8192 + k) 4294967295 4294967295)
-  one-emptied k P₀ P S small room =
-      let Q = put P k 4294967295 4294967295 in
-      let writes : Row ev 0 (k + 1) (writesAt 0) Q = rw zero-add at (row-put ev 0 k (writesAt 0) P (shown-writes 0 k P₀ P S) k (k + 1) (writesAt 0) none (no-write-yet ev k)
-      (λ q l d. (omega arith, refl)) small (omega arith) (omega (arith, S .size)))
-      in
-      let reads : Row ev 8192 k (readsAt 0) Q = row-apart ev 8192 k (readsAt 0) P (shown-reads 0 k P₀ P S) k 4294967295 4294967295
-      (λ q l. (omega arith, omega arith, omega arith, omega arith))
-      in
-      rows-shown 0 (k + 1) P₀ (put Q (8192 + k) 4294967295 4294967295)
-      (row-apart ev 0 (k + 1) (writesAt 0) Q writes (8192 + k) 4294967295 4294967295
-      (λ q l. (omega arith, omega arith, omega arith, omega arith)))
-      (row-put ev 8192 k (readsAt 0) Q reads k (k + 1) (readsAt 0) none (no-read-yet ev k)
-      (λ q l d. (omega arith, refl)) small (omega arith) (omega (arith, S .size, put-length P k 4294967295 4294967295)))
-      (λ i o.
-      let d = o k (omega arith) in
-      put-other Q (8192 + k) 4294967295 4294967295 i (omega arith) (omega arith) ∙ put-other P k 4294967295 4294967295 i (omega arith) (omega arith)
-      ∙ S .others i (λ r l. o r (omega arith)))
-      (put-length Q (8192 + k) 4294967295 4294967295 ∙ put-length P k 4294967295 4294967295 ∙ S .size)
 
   -- one place is put: the entries of no record stay, and so does the length
   put-shown : (n records : ℕ) (P₀ P : List ℕ) (p event strand : ℕ) → Shown ev n records P₀ P

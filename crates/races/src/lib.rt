@@ -6,7 +6,7 @@ ghost use Prim.Native.Nat.{ℕ, _+_, _<_, _≤_};
 ghost use lib.ListN.{length};
 ghost use Rattle.jobfile.specs.declared.coding.Event.{Event};
 ghost use Rattle.jobfile.specs.declared.coding.Event.the-variants.{Read, Write};
-ghost use Rattle.races.specs.Entries.{heldOr, metIn, put, Place};
+ghost use Rattle.races.specs.Entries.{heldOr, metIn, put, Emptied, Place};
 ghost use Rattle.races.specs.Shown.{Shown, Askable, Answers};
 
 // What an access finds: the first access of a race with it, or nothing.
@@ -22,10 +22,20 @@ pub fn clear(places: &mut [u32], records: usize)
     requires { ⌜ records ≤ 4096 ⌝ }
     ensures { λ _. ⌜ ((ev : ℕ → Event) → Shown ev 0 records (now (places .entry)) (now (places .exit))) ⌝ }
 {
+    empty(places, 0, records);
+    empty(places, 4096, records);
+    empty(places, 8192, records);
+    empty(places, 12288, records);
+}
+
+// Makes as many entries from `from` on none: one fill of memory for each of the four parts.
+fn empty(places: &mut [u32], from: usize, records: usize)
+    requires { ⌜ from + records ≤ length (now places) ⌝ }
+    ensures { λ _. ⌜ Emptied from records (now (places .entry)) (now (places .exit)) ⌝ }
+{
     let mut r: usize = 0;
     while r < records {
-        put(places, r, 4294967295, 4294967295);
-        put(places, 8192 + r, 4294967295, 4294967295);
+        places[from + r] = 4294967295;
         r += 1;
     }
 }
