@@ -10,17 +10,18 @@ pub enum Event {
     Write(usize),
 }
 
-/// Decodes four bytes; none if they are no event. Accesses are told first, as the library tells them: most events are accesses.
+/// Decodes four bytes; none if they are no event. An event that has nothing but its kind is told first: that leaves few branches to
+/// be guessed wrong, both where reads and writes are treated alike and where they are not.
 pub fn decode(bytes: [u8; 4]) -> Option<Event> {
     let event = u32::from_le_bytes(bytes);
     let record = (event >> 16) as usize;
-    match event & 0xFFFF {
-        4 => Some(Event::Read(record)),
-        5 => Some(Event::Write(record)),
-        _ => match event {
-            1 => Some(Event::Spawn),
-            2 => Some(Event::End),
-            3 => Some(Event::Sync),
+    match event {
+        1 => Some(Event::Spawn),
+        2 => Some(Event::End),
+        3 => Some(Event::Sync),
+        _ => match event & 0xFFFF {
+            4 => Some(Event::Read(record)),
+            5 => Some(Event::Write(record)),
             _ => None,
         },
     }
