@@ -23,7 +23,7 @@ refused-all false b = refused-both b
 module _ (kind number : ℕ) (a : kind ≢ 1) (b : kind ≢ 2) (c : kind ≢ 3) (d : kind ≢ 4) (e : kind ≢ 5) where
   none-told : toldOf kind number ≡ Refused 8
   unfolding toldOf
-  none-told = rw (ne-eqb kind 4 d, ne-eqb kind 5 e, ne-eqb kind 1 a, ne-eqb kind 2 b, ne-eqb kind 3 c) (refused-both (eqb number 0))
+  none-told = rw (ne-eqb kind 1 a, ne-eqb kind 2 b, ne-eqb kind 3 c, ne-eqb kind 4 d, ne-eqb kind 5 e)
 
   none-is : eventOf kind 0 number ≡ Refused 8
   unfolding eventOf

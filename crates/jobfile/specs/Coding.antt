@@ -2,7 +2,7 @@
 use mathlib.Core.Path.{_≡_}
 use Prim.Native.Nat.{ℕ, _+_, _*_}
 use mathlib.Core.List.{List}
-use mathlib.Core.Bool.{cond}
+use mathlib.Core.Bool.{cond, _&&_, _||_}
 use lib.ListN.{getD}
 use lib.Dec.{eqb, ltb}
 use Rattle.jobfile.specs.declared.coding.Event.the-variants.{Spawn, End, Sync, Read, Write}
@@ -25,18 +25,16 @@ eventOf kind second number =
     (Refused 8))))
     (Refused 8)))
 
--- The same as the code tells it: the kind and the second byte as one number, accesses, which are the most common, first. No part of what
--- must be believed: `told-is` (proofs/Told.antt).
+-- The same as the code tells it: the kind and the second byte as one number, a kind that has no record together with the record, and reads
+-- and writes as one. No part of what must be believed: `told-is` (proofs/Told.antt).
 unfoldable pub toldOf : ℕ → ℕ → Decoded
 toldOf kind number =
-    cond (eqb kind 4) (An (Read number))
-    (cond (eqb kind 5) (An (Write number))
-    (cond (eqb number 0)
-    (cond (eqb kind 1) (An Spawn)
-    (cond (eqb kind 2) (An End)
-    (cond (eqb kind 3) (An Sync)
+    cond (eqb kind 1 && eqb number 0) (An Spawn)
+    (cond (eqb kind 2 && eqb number 0) (An End)
+    (cond (eqb kind 3 && eqb number 0) (An Sync)
+    (cond (eqb kind 4 || eqb kind 5)
+    (cond (eqb kind 4) (An (Read number)) (An (Write number)))
     (Refused 8))))
-    (Refused 8)))
 
 -- the bound that a caller needs
 abbrev pub DecodeFits : Decoded → Type 0

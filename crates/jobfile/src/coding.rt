@@ -1,6 +1,8 @@
 // An event: the four bytes, and the five things that they can say.
 ghost use mathlib.Core.Path.{_≡_};
+ghost use mathlib.Core.Bool.{_&&_};
 ghost use Prim.Native.Nat.{_+_, _*_, _≤_};
+ghost use lib.Dec.{eqb};
 ghost use lib.ListN.{length};
 ghost use Rattle.jobfile.specs.Coding.{decodeAt, toldOf, DecodeFits};
 ghost use Rattle.jobfile.specs.Trace.{eventAt};
@@ -27,31 +29,36 @@ fn pair(low: u8, high: u8) -> u16
     (low as u16) + 256 * (high as u16)
 }
 
-// The event of a kind and a record. A kind of two bytes is one of 1 to 5 only if the second byte is 0, so refusal 8 has two tests here:
-// the record of a kind that has none, and the kind.
+// The event of a kind and a record. A kind of two bytes is one of 1 to 5 only if the second byte is 0, so refusal 8 is what is left.
+// Told in this order, a processor guesses few branches wrong: one at a spawn, end or sync, and at an access whether it is a write, and
+// that only where reads and writes are not treated alike.
 fn event_of(kind: u16, number: u16) -> Decoded
     ensures { λ r. ⌜ r ≡ toldOf kind number ⌝ }
     ensures { λ r. ⌜ DecodeFits r ⌝ }
 {
-    if kind == 4 {
-        return Decoded::Event(Event::Read(number));
-    }
-    if kind == 5 {
-        return Decoded::Event(Event::Write(number));
-    }
-    if number != 0 {
-        return Decoded::Refused(8);
-    }
-    if kind == 1 {
+    if bare(kind, number, 1) {
         return Decoded::Event(Event::Spawn);
     }
-    if kind == 2 {
+    if bare(kind, number, 2) {
         return Decoded::Event(Event::End);
     }
-    if kind == 3 {
+    if bare(kind, number, 3) {
         return Decoded::Event(Event::Sync);
     }
+    if (kind == 4) | (kind == 5) {
+        if kind == 4 {
+            return Decoded::Event(Event::Read(number));
+        }
+        return Decoded::Event(Event::Write(number));
+    }
     Decoded::Refused(8)
+}
+
+// Whether it is this kind, with no record.
+fn bare(kind: u16, number: u16, this: u16) -> bool
+    ensures { λ r. ⌜ r ≡ (eqb kind this && eqb number 0) ⌝ }
+{
+    (kind == this) & (number == 0)
 }
 
 // The event of the four bytes at `at`.
