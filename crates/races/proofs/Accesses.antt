@@ -3,7 +3,7 @@
 use mathlib.Core.Path.{_≡_, refl, sym, ap, _∙_}
 use mathlib.Core.Logic.{_≢_}
 use mathlib.Core.List.{List}
-use mathlib.Core.Bool.{true, false}
+use mathlib.Core.Bool.{Bool, true, false, cond}
 use mathlib.Core.Option.{Option, none, some}
 use Prim.Native.Nat.{ℕ, suc, _+_, _≤_, _<_}
 use native.Mathlib.Omega.{arith}
@@ -22,6 +22,7 @@ use Rattle.races.specs.Shown.{eventOr, strandOr, Judgeable, Judged, Aska
 use Rattle.races.specs.Entries.{heldOr, metIn, put}
 use Rattle.races.proofs.Places.{holds-some, last-write-is, standing-read-is}
 use Rattle.races.proofs.Verdict.{clean-all, read-clean, write-clean, last-write-races, standing-read-races}
+use Rattle.races.proofs.Entries.{put-held}
 use Rattle.races.proofs.Shown.{shown-unique, write-shown, read-shown, read-kept}
 
 module _
@@ -102,11 +103,12 @@ module _ (P L : List ℕ) (r at strand : ℕ) where
     read-passes ev n records P₀ J quiet = read-clean ev r n quiet (J .event) (sym (last-write-met J) ∙ past)
 
     -- and comes to stand, unless the standing read is parallel
-    pub read-taken : metIn L P (8192 + r) strand ≡ false → Answers P L (Read r) r at strand (put P (8192 + r) at strand) Nothing
-    read-taken f ev n records P₀ J = (read-passes ev n records P₀ J, read-shown J (sym (standing-read-met J) ∙ f))
-
-    pub read-left : metIn L P (8192 + r) strand ≡ true → Answers P L (Read r) r at strand P Nothing
-    read-left t ev n records P₀ J = (read-passes ev n records P₀ J, read-kept J (sym (standing-read-met J) ∙ t))
+    pub read-passed : (stands : Bool) → stands ≡ metIn L P (8192 + r) strand
+        → Answers P L (Read r) r at strand (put P (8192 + r) (cond stands (getD P (8192 + r) 0) at) (cond stands (getD P (12288 + r) 0) strand)) Nothing
+    read-passed true t ev n records P₀ J =
+        let i : 12288 + r ≡ 8192 + r + 4096 = omega arith in
+        (read-passes ev n records P₀ J, rw (i, put-held P (8192 + r)) (read-kept J (sym (standing-read-met J) ∙ sym t)))
+    read-passed false f ev n records P₀ J = (read-passes ev n records P₀ J, read-shown J (sym (standing-read-met J) ∙ sym f))
 
 -- while no race has been met, no second answer fits, and no second contents of the places
 pub answer-unique : (P L : List ℕ) (e : Event) (r at strand : ℕ) (A : Askable P L e r at strand) → secondIn (A .ev) (A .n) ≡ none

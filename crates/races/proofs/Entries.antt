@@ -9,11 +9,16 @@ use Prim.Native.Nat.{ℕ, _+_, _≤_, _<_}
 use native.Mathlib.Omega.{arith}
 use lib.Dec.{eqb}
 use lib.ListN.{length, getD, set, length-set}
-use lib.Seq.{getD-set-same, getD-set-other, lt-length-set}
+use lib.Seq.{getD-set-same, getD-set-other, set-getD, lt-length-set}
 use borrow.Author.Tests.{eqb-true, eqb-false}
 use Rattle.jobfile.specs.declared.coding.Event.{Event}
 use Rattle.races.specs.Shown.{eventOr, strandOr}
 use Rattle.races.specs.Entries.{put, Emptied}
+
+-- what a place holds, put there again, changes nothing
+pub put-held : (P : List ℕ) (p : ℕ) → put P p (getD P p 0) (getD P (p + 4096) 0) ≡ P
+unfolding put
+put-held P p = rw (set-getD P p 0, set-getD P (p + 4096) 0)
 
 module _ (P : List ℕ) (p event strand : ℕ) where
   pub put-length : length (put P p event strand) ≡ length P

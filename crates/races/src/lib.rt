@@ -1,7 +1,7 @@
 // The places of the records, the last write and the standing read of each, in a lent buffer: what an access finds there.
 // The theory of races stands in specs/ and proofs/.
 ghost use mathlib.Core.Path.{_≡_};
-ghost use mathlib.Core.Bool.{_||_};
+ghost use mathlib.Core.Bool.{cond};
 ghost use Prim.Native.Nat.{ℕ, _+_, _<_, _≤_};
 ghost use lib.ListN.{length};
 ghost use Rattle.jobfile.specs.declared.coding.Event.{Event};
@@ -41,7 +41,7 @@ fn empty(places: &mut [u32], from: usize, records: usize)
 }
 
 // Event `at`, in `strand`, reads record r: the last write where that is parallel to it. Otherwise the read stands if no read does, or
-// if the standing one is before it.
+// if the standing one is before it; and else that one is put again, since a processor cannot foresee which.
 // requires: the places show the events before this one, and the labels tell which of those are parallel to it.
 pub fn read(places: &mut [u32], labels: &[u64], r: usize, at: usize, strand: usize) -> Met
     requires { ⌜ Askable (now places) (now labels) (Read r) r at strand ⌝ }
@@ -50,9 +50,10 @@ pub fn read(places: &mut [u32], labels: &[u64], r: usize, at: usize, strand: usi
     if meets(places, labels, r, strand) {
         return Met::First(wide(places[r]));
     }
-    if !meets(places, labels, 8192 + r, strand) {
-        put(places, 8192 + r, at as u32, strand as u32);
-    }
+    let stands = meets(places, labels, 8192 + r, strand);
+    let event = pick(stands, places[8192 + r], at as u32);
+    let held = pick(stands, places[12288 + r], strand as u32);
+    put(places, 8192 + r, event, held);
     Met::Nothing
 }
 
@@ -65,7 +66,7 @@ pub fn write(places: &mut [u32], labels: &[u64], r: usize, at: usize, strand: us
 {
     let wrote = meets(places, labels, r, strand);
     let stood = meets(places, labels, 8192 + r, strand);
-    if either(wrote, stood) {
+    if wrote | stood {
         if wrote {
             return Met::First(wide(places[r]));
         }
@@ -73,15 +74,6 @@ pub fn write(places: &mut [u32], labels: &[u64], r: usize, at: usize, strand: us
     }
     put(places, r, at as u32, strand as u32);
     Met::Nothing
-}
-
-fn either(a: bool, b: bool) -> bool
-    ensures { λ r. ⌜ r ≡ (a || b) ⌝ }
-{
-    if a {
-        return true;
-    }
-    b
 }
 
 // Whether the place whose event is at `at` holds an access that is parallel to `strand`, the current one: its Hebrew label is above.
@@ -113,6 +105,15 @@ fn put(places: &mut [u32], at: usize, event: u32, strand: u32)
 {
     places[at] = event;
     places[at + 4096] = strand;
+}
+
+fn pick(first: bool, a: u32, b: u32) -> u32
+    ensures { λ r. ⌜ r ≡ cond first a b ⌝ }
+{
+    if first {
+        return a;
+    }
+    b
 }
 
 fn wide(x: u32) -> usize

@@ -1,8 +1,7 @@
 -- `read` meets its contract: the answers of the two questions say which way the read goes. Assumes nothing.
 use mathlib.Core.Path.{refl, sym, _∙_}
-use borrow.Author.Tests.{not-true, not-false}
 use Rattle.jobfile.specs.declared.coding.Event.the-variants.{Read}
-use Rattle.races.proofs.Accesses.{last-write-found, read-taken, read-left}
+use Rattle.races.proofs.Accesses.{last-write-found, read-passed}
 use borrow.Author.Needs.{needs}
 use Rattle.races.proofs.read.Statement.{statement}
 use Rattle.races.proofs.read.Tie as tie
@@ -33,14 +32,38 @@ add-meets c = search needs
 meets-requires-2 : tie.Need-meets-requires-2
 meets-requires-2 c κs = search needs
 
+add-pick : tie.Need-add-pick
+add-pick c = search needs
+
+mul-pick : tie.Need-mul-pick
+mul-pick c = search needs
+
+slice-read-pick : tie.Need-slice-read-pick
+slice-read-pick c = search needs
+
+cast-pick : tie.Need-cast-pick
+cast-pick c = search needs
+
+pick-requires : tie.Need-pick-requires
+pick-requires c κs = search needs
+
+add-pick-2 : tie.Need-add-pick-2
+add-pick-2 c = search needs
+
+mul-pick-2 : tie.Need-mul-pick-2
+mul-pick-2 c = search needs
+
+slice-read-pick-2 : tie.Need-slice-read-pick-2
+slice-read-pick-2 c = search needs
+
+cast-pick-2 : tie.Need-cast-pick-2
+cast-pick-2 c = search needs
+
+pick-requires-2 : tie.Need-pick-requires-2
+pick-requires-2 c κs = search needs
+
 add-put : tie.Need-add-put
 add-put c = search needs
-
-cast-put : tie.Need-cast-put
-cast-put c = search needs
-
-cast-put-2 : tie.Need-cast-put-2
-cast-put-2 c = search needs
 
 put-requires : tie.Need-put-requires
 put-requires c κs = search needs
@@ -50,18 +73,13 @@ same-length-2 c = search needs
 
 returns-2 : tie.Need-returns-2
 returns-2 c =
-    let test = c .before .before .before .before in
-    let past = test .before .before .before in
-    rw (c .before .before .put .ensures)
-    (read-taken _ _ _ _ _ (sym (past .before .meets .ensures) ∙ past .if1 .left) (sym (test .before .meets2 .ensures) ∙ not-true _ (test .if2 .taken)))
-
-same-length-3 : tie.Need-same-length-3
-same-length-3 c = search needs
-
-returns-3 : tie.Need-returns-3
-returns-3 c =
-    let past = c .before .before .before in
-    read-left _ _ _ _ _ (sym (past .before .meets .ensures) ∙ past .if1 .left) (sym (c .before .meets2 .ensures) ∙ not-false _ (c .if2 .left))
+    let p = c .before .before in
+    let second = p .before .before in
+    let first = second .before .before in
+    let asked = first .before .before in
+    let past = asked .before .before in
+    rw (p .put .ensures, second .pick2 .ensures, first .pick .ensures)
+    (read-passed _ _ _ _ _ (sym (past .before .meets .ensures) ∙ past .if1 .left) _ (asked .meets2 .ensures))
 
 pub read-spec : {M : Type 1} → statement M
 read-spec =
@@ -75,11 +93,17 @@ read-spec =
     returns
     add-meets
     meets-requires-2
+    add-pick
+    mul-pick
+    slice-read-pick
+    cast-pick
+    pick-requires
+    add-pick-2
+    mul-pick-2
+    slice-read-pick-2
+    cast-pick-2
+    pick-requires-2
     add-put
-    cast-put
-    cast-put-2
     put-requires
     same-length-2
-    returns-2
-    same-length-3
-    returns-3)
+    returns-2)

@@ -8,12 +8,12 @@ use Rattle.races.proofs.write.Statement.{statement}
 use Rattle.races.proofs.write.Tie as tie
 
 -- what both answers say together
-second : (a b r : Bool) → r ≡ (a || b) → r ≡ true → a ≡ false → b ≡ true
-second a b r e t f = sym (rw f at e) ∙ t
+second : (a b : Bool) → (a || b) ≡ true → a ≡ false → b ≡ true
+second a b t f = rw f at t
 
-neither : (a b r : Bool) → r ≡ (a || b) → r ≡ false → (a ≡ false) × (b ≡ false)
-neither true b r e f = let z : true ≡ false = sym e ∙ f in (z, cc)
-neither false b r e f = (refl, sym e ∙ f)
+neither : (a b : Bool) → (a || b) ≡ false → (a ≡ false) × (b ≡ false)
+neither true b f = (f, cc)
+neither false b f = (refl, f)
 
 meets-requires : tie.Need-meets-requires
 meets-requires c κs = search needs
@@ -23,9 +23,6 @@ add-meets c = search needs
 
 meets-requires-2 : tie.Need-meets-requires-2
 meets-requires-2 c κs = search needs
-
-either-requires : tie.Need-either-requires
-either-requires c κs = search needs
 
 mul-wide : tie.Need-mul-wide
 mul-wide c = search needs
@@ -42,7 +39,7 @@ same-length c = search needs
 returns : tie.Need-returns
 returns c =
     let t = c .before .before in
-    let m = t .before .before .before .before .before in
+    let m = t .before .before .before .before in
     rw (c .wide .ensures) (last-write-found _ _ _ _ _ (Write _) refl refl (sym (m .meets .ensures) ∙ t .if2 .taken))
 
 add-wide : tie.Need-add-wide
@@ -63,11 +60,11 @@ same-length-2 c = search needs
 returns-2 : tie.Need-returns-2
 returns-2 c =
     let t = c .before .before in
-    let e = t .before .before in
-    let m = e .before .before .before in
+    let a = t .before .before in
+    let m = a .before .before in
     rw (c .wide2 .ensures)
     (standing-read-found _ _ _ _ _ (sym (m .meets .ensures) ∙ t .if2 .left)
-    (sym (e .before .meets2 .ensures) ∙ second _ _ _ (e .either .ensures) (t .before .if1 .taken) (t .if2 .left)))
+    (sym (a .meets2 .ensures) ∙ second _ _ (t .before .if1 .taken) (t .if2 .left)))
 
 cast-put : tie.Need-cast-put
 cast-put c = search needs
@@ -85,10 +82,10 @@ returns-3 : tie.Need-returns-3
 returns-3 c =
     let p = c .before .before in
     let t = p .before .before in
-    let e = t .before in
-    let m = e .before .before .before in
-    let n = neither _ _ _ (e .either .ensures) (t .if1 .left) in
-    rw (p .put .ensures) (write-taken _ _ _ _ _ (sym (m .meets .ensures) ∙ n .0) (sym (e .before .meets2 .ensures) ∙ n .1))
+    let a = t .before in
+    let m = a .before .before in
+    let n = neither _ _ (t .if1 .left) in
+    rw (p .put .ensures) (write-taken _ _ _ _ _ (sym (m .meets .ensures) ∙ n .0) (sym (a .meets2 .ensures) ∙ n .1))
 
 pub write-spec : {M : Type 1} → statement M
 write-spec =
@@ -97,7 +94,6 @@ write-spec =
     meets-requires
     add-meets
     meets-requires-2
-    either-requires
     mul-wide
     slice-read-wide
     wide-requires
