@@ -1,15 +1,21 @@
--- The kind and the second byte as one number tell the same event as the two apart. Assumes nothing.
+-- The kind and the second byte as one number tell the same event as the two apart, and so do all four bytes as one. Assumes nothing.
 use mathlib.Core.Path.{_≡_, refl, sym, _∙_}
-use mathlib.Core.Logic.{_≢_}
-use mathlib.Core.Bool.{Bool, true, false, cond}
-use Prim.Native.Nat.{ℕ, _+_, _*_, _<_}
+use mathlib.Core.Logic.{_≢_, _⊎_, ⊎-elim}
+use mathlib.Core.List.{List}
+use mathlib.Core.Bool.{Bool, true, false, cond, _&&_, _||_, false≢true}
+use Prim.Native.Nat.{ℕ, _+_, _*_, _/_, _%_, _<_, _≤_}
 use native.Mathlib.Nat.{add-zero}
 use native.Mathlib.Omega.{arith}
 use lib.Dec.{eqb, ltb}
+use lib.ListN.{getD}
+use lib.Arith.{digits-div, digits-mod}
 use borrow.Author.Tests.{ne-eqb, lt-ltb, eqb-true, eqb-false}
+use Rattle.jobfile.specs.declared.coding.Event.the-variants.{Read}
 use Rattle.jobfile.specs.declared.coding.Decoded.{Decoded}
-use Rattle.jobfile.specs.declared.coding.Decoded.the-variants.{Refused}
-use Rattle.jobfile.specs.Coding.{eventOf, toldOf}
+use Rattle.jobfile.specs.declared.coding.Decoded.the-variants.{Event as An, Refused}
+use Rattle.jobfile.specs.Coding.{eventOf, toldOf, decodeAt}
+use Rattle.jobfile.specs.Trailer.{quad}
+use Rattle.jobfile.specs.Tasks.{moved, stepOn, stepOf, taskFault}
 
 refused-both : (t : Bool) → cond t (Refused 8) (Refused 8) ≡ Refused 8
 refused-both true = refl
@@ -61,3 +67,60 @@ told-is kind second number h = go (eqb second 0) refl
         let n : second ≢ 0 = eqb-false second 0 q in
         none-told (kind + 256 * second) number (omega arith) (omega arith) (omega arith) (omega arith) (omega arith)
         ∙ rw q (sym (refused-all (eqb kind 0) (ltb 5 kind)))
+
+-- all four bytes as one number: the record above, the kind and the second byte below
+module _ (bytes : List ℕ) (at : ℕ) (kind : getD bytes at 0 < 256) (second : getD bytes (at + 1) 0 < 256) where
+  low : ℕ
+  low = getD bytes at 0 + 256 * getD bytes (at + 1) 0
+
+  high : ℕ
+  high = getD bytes (at + 2) 0 + 256 * getD bytes (at + 3) 0
+
+  pub packed-is : (w : ℕ) → w ≡ quad (getD bytes at 0) (getD bytes (at + 1) 0) (getD bytes (at + 2) 0) (getD bytes (at + 3) 0)
+      → decodeAt bytes at ≡ toldOf (w % 65536) (w / 65536)
+  unfolding low high
+  packed-is w e =
+      let split : w ≡ high * 65536 + low = omega (arith, e) in
+      let below : low < 65536 = omega arith in
+      rw (split, digits-div high below, digits-mod high below) (sym (told-is (getD bytes at 0) (getD bytes (at + 1) 0) high kind))
+
+-- a number below 4, but 0, is a kind with no record
+pub told-small : (w : ℕ) → w ≢ 0 → w < 4 → toldOf (w % 65536) (w / 65536) ≡ An (moved (eqb w 1) (eqb w 2))
+unfolding toldOf
+told-small w z h = go (eqb w 1) refl (eqb w 2) refl
+  where
+    go : (a : Bool) → eqb w 1 ≡ a → (b : Bool) → eqb w 2 ≡ b → toldOf (w % 65536) (w / 65536) ≡ An (moved (eqb w 1) (eqb w 2))
+    go true p b q = rw (eqb-true w 1 p)
+    go false p true q = rw (eqb-true w 2 q)
+    go false p false q =
+        let a : w ≢ 1 = eqb-false w 1 p in
+        let b : w ≢ 2 = eqb-false w 2 q in
+        let c : w ≡ 3 = omega arith in
+        rw c
+
+-- of any other number only an access can be told
+pub told-over : (w : ℕ) → (w ≡ 0) ⊎ (4 ≤ w) → (eqb (w % 65536) 4 || eqb (w % 65536) 5) ≡ false → toldOf (w % 65536) (w / 65536) ≡ Refused 8
+unfolding toldOf
+told-over w o n = rw (bare 1 (omega arith), bare 2 (omega arith), bare 3 (omega arith), n)
+  where
+    bare : (k : ℕ) → (0 < k) × (k < 4) → (eqb (w % 65536) k && eqb (w / 65536) 0) ≡ false
+    bare k l = go (eqb (w % 65536) k) refl (eqb (w / 65536) 0) refl
+      where
+        go : (a : Bool) → eqb (w % 65536) k ≡ a → (b : Bool) → eqb (w / 65536) 0 ≡ b → (eqb (w % 65536) k && eqb (w / 65536) 0) ≡ false
+        go true p true q =
+            let e : w % 65536 ≡ k = eqb-true (w % 65536) k p in
+            let z : w / 65536 ≡ 0 = eqb-true (w / 65536) 0 q in
+            absurd (⊎-elim (λ x. omega arith) (λ x. omega arith) o)
+        go true p false q = rw (p, q)
+        go false p b q = rw p
+
+-- reads and writes lead to the same
+pub told-access : (records n : ℕ) (tasks : List Bool) (kind number : ℕ) → (eqb kind 4 || eqb kind 5) ≡ true
+    → stepOf records tasks n (toldOf kind number) ≡ stepOn records tasks n (Read number)
+unfolding toldOf stepOn taskFault
+told-access records n tasks kind number t = go (eqb kind 4) refl (eqb kind 5) refl
+  where
+    go : (a : Bool) → eqb kind 4 ≡ a → (b : Bool) → eqb kind 5 ≡ b → stepOf records tasks n (toldOf kind number) ≡ stepOn records tasks n (Read number)
+    go true p b q = rw (eqb-true kind 4 p)
+    go false p true q = rw (eqb-true kind 5 q)
+    go false p false q = absurd (false≢true (rw (p, q) at t))
