@@ -5,7 +5,7 @@ use Prim.Native.Nat.{_≤_}
 use lib.Dec.{lit≤}
 use mir.Val.{boolByte}
 use native.Mathlib.Omega.{arith}
-use Rattle.jobfile.proofs.Flags.{openAfter, begunAfter, outside, inside, moved-out, moved-full, moved-on}
+use Rattle.jobfile.proofs.Flags.{openAfter, outside, inside, moved-out, moved-full, moved-on}
 use borrow.Author.Needs.{needs}
 use Rattle.jobfile.proofs.tasks.structure.Statement.{statement}
 use Rattle.jobfile.proofs.tasks.structure.Tie as tie
@@ -18,29 +18,26 @@ fault-fits : (b : Bool) → (8 ≤ cond b 11 10) × (cond b 11 10 ≤ 12)
 fault-fits true = (lit≤ tt, lit≤ tt)
 fault-fits false = (lit≤ tt, lit≤ tt)
 
-add-open : tie.Need-add-open
-add-open c = search needs
+cast-left : tie.Need-cast-left
+cast-left c = search needs
 
-cast-open : tie.Need-cast-open
-cast-open c = search needs
+add-left : tie.Need-add-left
+add-left c = omega (arith, at-most-one (c .args .spawns))
 
-add-open-2 : tie.Need-add-open-2
-add-open-2 c = omega (arith, at-most-one (c .args .spawns))
+cast-left-2 : tie.Need-cast-left-2
+cast-left-2 c = search needs
 
-cast-open-2 : tie.Need-cast-open-2
-cast-open-2 c = search needs
-
-sub-open : tie.Need-sub-open
-sub-open c = omega (arith, at-most-one (c .args .ends))
+sub-left : tie.Need-sub-left
+sub-left c = omega (arith, at-most-one (c .args .ends))
 
 open-fault-requires : tie.Need-open-fault-requires
 open-fault-requires c κs = search needs
 
 returns : tie.Need-returns
 returns c =
-    let a = c .before .before .args in
+    let s = c .before .before in
     rw (c .open-fault .ensures)
-    ((λ records. sym (moved-out records _ _ (a .top) (a .spawns) (a .ends) (c .before .before .pre .1) (omega arith) (outside _ (c .before .if1 .taken)))), fault-fits (a .spawns))
+    ((λ records. sym (moved-out records _ _ (s .args .depth) (omega arith) (s .args .spawns) (s .args .ends) (s .pre .1) (omega arith) (outside _ (c .before .if1 .taken)))), fault-fits (s .args .spawns))
 
 cast-begun : tie.Need-cast-begun
 cast-begun c = search needs
@@ -54,33 +51,25 @@ returns-2 : tie.Need-returns-2
 returns-2 c =
     let s = c .before .before in
     let i = inside _ (c .before .if1 .left) in
-    ((λ records. sym (moved-full records _ _ (s .args .top) (s .args .spawns) (s .args .ends) (s .pre .1) (i .0) (i .1) (c .if2 .taken))), search needs)
-
-sub-t8 : tie.Need-sub-t8
-sub-t8 c =
-    let a = c .before .before .args in
-    let i = inside (openAfter (a .top) (a .spawns) (a .ends)) (c .before .if1 .left) in
-    omega (arith, i .0)
+    ((λ records. sym (moved-full records _ _ (s .args .depth) (omega arith) (s .args .spawns) (s .args .ends) (s .pre .1) (i .0) (i .1) (c .if2 .taken))), search needs)
 
 returns-3 : tie.Need-returns-3
 returns-3 c =
     let s = c .before .before in
-    let i = inside _ (c .before .if1 .left) in
-    ((λ records. sym (moved-on records _ _ (s .args .top) (s .args .spawns) (s .args .ends) (s .pre .1) (i .0) (i .1) (c .if2 .left))), (omega (arith, i .1), omega arith, omega arith))
+    let i = inside (openAfter (s .args .depth) (s .args .spawns) (s .args .ends)) (c .before .if1 .left) in
+    ((λ records. sym (moved-on records _ _ (s .args .depth) (omega arith) (s .args .spawns) (s .args .ends) (s .pre .1) (i .0) (i .1) (c .if2 .left))), (omega (arith, i .0), i .1, omega arith, omega arith))
 
 pub structure-spec : {M : Type 1} → statement M
 structure-spec =
     tie.close
     (tie.spec
-    add-open
-    cast-open
-    add-open-2
-    cast-open-2
-    sub-open
+    cast-left
+    add-left
+    cast-left-2
+    sub-left
     open-fault-requires
     returns
     cast-begun
     add-begun
     returns-2
-    sub-t8
     returns-3)
