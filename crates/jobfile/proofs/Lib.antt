@@ -1,6 +1,6 @@
 pub mod Tests
 pub mod Head
-pub mod Flags
+pub mod Moves
 pub mod Turns
 pub mod Whole
 pub mod Told

@@ -10,12 +10,19 @@ use lib.Dec.{eqb, ltb}
 use lib.ListN.{getD}
 use lib.Arith.{digits-div, digits-mod}
 use borrow.Author.Tests.{ne-eqb, lt-ltb, eqb-true, eqb-false}
-use Rattle.jobfile.specs.declared.coding.Event.the-variants.{Read}
+use Rattle.jobfile.specs.declared.coding.Event.{Event}
+use Rattle.jobfile.specs.declared.coding.Event.the-variants.{Read, Write}
 use Rattle.jobfile.specs.declared.coding.Decoded.{Decoded}
 use Rattle.jobfile.specs.declared.coding.Decoded.the-variants.{Event as An, Refused}
 use Rattle.jobfile.specs.Coding.{eventOf, toldOf, decodeAt}
 use Rattle.jobfile.specs.Trailer.{quad}
-use Rattle.jobfile.specs.Tasks.{moved, stepOn, stepOf, taskFault}
+use Rattle.jobfile.specs.Tasks.{moved, stepOn, stepOf, taskFault, Leads}
+use Rattle.jobfile.specs.declared.tasks.Step.{Step}
+use Rattle.jobfile.specs.declared.tasks.Step.the-variants.{Go, Stop, Unread}
+
+-- an event is no refusal
+no-event : {e : Event} {k : ℕ} → An e ≡ Refused k → ⊥
+no-event h = let z : _≡_ {A = ℕ} 0 1 = cc in omega arith
 
 refused-both : (t : Bool) → cond t (Refused 8) (Refused 8) ≡ Refused 8
 refused-both true = refl
@@ -116,11 +123,20 @@ told-over w o n = rw (bare 1 (omega arith), bare 2 (omega arith), bare 3 (omega 
 
 -- reads and writes lead to the same
 pub told-access : (records n : ℕ) (tasks : List Bool) (kind number : ℕ) → (eqb kind 4 || eqb kind 5) ≡ true
-    → stepOf records tasks n (toldOf kind number) ≡ stepOn records tasks n (Read number)
+    → (s : Step) → Leads s records tasks n (An (Read number)) → Leads s records tasks n (toldOf kind number)
 unfolding toldOf stepOn taskFault
 told-access records n tasks kind number t = go (eqb kind 4) refl (eqb kind 5) refl
   where
-    go : (a : Bool) → eqb kind 4 ≡ a → (b : Bool) → eqb kind 5 ≡ b → stepOf records tasks n (toldOf kind number) ≡ stepOn records tasks n (Read number)
-    go true p b q = rw (eqb-true kind 4 p)
-    go false p true q = rw (eqb-true kind 5 q)
-    go false p false q = absurd (false≢true (rw (p, q) at t))
+    same : stepOf records tasks n (An (Write number)) ≡ stepOf records tasks n (An (Read number))
+    same = refl
+
+    written : (s : Step) → Leads s records tasks n (An (Read number)) → Leads s records tasks n (An (Write number))
+    written (Go depth waits m) h = same ∙ h
+    written (Stop k) h = same ∙ h
+    written Unread h = absurd (no-event h)
+
+    go : (a : Bool) → eqb kind 4 ≡ a → (b : Bool) → eqb kind 5 ≡ b
+        → (s : Step) → Leads s records tasks n (An (Read number)) → Leads s records tasks n (toldOf kind number)
+    go true p b q s h = rw (eqb-true kind 4 p) h
+    go false p true q s h = rw (eqb-true kind 5 q) (written s h)
+    go false p false q s h = absurd (false≢true (rw (p, q) at t))

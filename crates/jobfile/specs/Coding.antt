@@ -41,6 +41,11 @@ abbrev pub DecodeFits : Decoded → Type 0
 DecodeFits (An e) = Unit {0}
 DecodeFits (Refused k) = k ≡ 8
 
+-- the number of a refusal, and 0 for an event
+abbrev pub numberOf : Decoded → ℕ
+numberOf (An e) = 0
+numberOf (Refused k) = k
+
 -- the four bytes from a place on, as an event
 abbrev pub decodeAt : List ℕ → ℕ → Decoded
 decodeAt bytes at = eventOf (getD bytes at 0) (getD bytes (at + 1) 0) (getD bytes (at + 2) 0 + 256 * getD bytes (at + 3) 0)

@@ -4,7 +4,7 @@ ghost use mathlib.Core.Bool.{_&&_};
 ghost use Prim.Native.Nat.{_+_, _*_, _/_, _%_, _≤_};
 ghost use lib.Dec.{eqb};
 ghost use lib.ListN.{length};
-ghost use Rattle.jobfile.specs.Coding.{decodeAt, toldOf, DecodeFits};
+ghost use Rattle.jobfile.specs.Coding.{decodeAt, toldOf, numberOf, DecodeFits};
 ghost use Rattle.jobfile.specs.Trace.{eventAt};
 use crate::trailer::quad;
 
@@ -73,6 +73,16 @@ pub fn decode(part: &[u8], at: usize) -> Decoded
         pair(part[at], part[at + 1]),
         pair(part[at + 2], part[at + 3]),
     )
+}
+
+// The number of the refusal that a decoding answers, and 0 for an event.
+pub fn number_of(d: Decoded) -> u32
+    ensures { λ r. ⌜ r ≡ numberOf d ⌝ }
+{
+    match d {
+        Decoded::Refused(k) => k,
+        Decoded::Event(_) => 0,
+    }
 }
 
 // The four bytes at `at` as one number: the record above, the kind and the zero byte below.

@@ -1,11 +1,10 @@
 -- `jobfile::tasks::structure` meets its contract: the tests say which way the spawn, end or sync goes. Assumes nothing.
-use mathlib.Core.Path.{sym}
 use mathlib.Core.Bool.{Bool, true, false, cond, _||_}
 use Prim.Native.Nat.{_≤_}
 use lib.Dec.{lit≤}
 use mir.Val.{boolByte}
 use native.Mathlib.Omega.{arith}
-use Rattle.jobfile.proofs.Flags.{openAfter, outside, inside, moved-out, moved-full, moved-on}
+use Rattle.jobfile.proofs.Moves.{openAfter, outside, inside, moved-out, moved-full, moved-on}
 use borrow.Author.Needs.{needs}
 use Rattle.jobfile.proofs.tasks.structure.Statement.{statement}
 use Rattle.jobfile.proofs.tasks.structure.Tie as tie
@@ -14,7 +13,7 @@ at-most-one : (b : Bool) → boolByte b ≤ 1
 at-most-one true = lit≤ tt
 at-most-one false = lit≤ tt
 
-fault-fits : (b : Bool) → (8 ≤ cond b 11 10) × (cond b 11 10 ≤ 12)
+fault-fits : (b : Bool) → (9 ≤ cond b 11 10) × (cond b 11 10 ≤ 12)
 fault-fits true = (lit≤ tt, lit≤ tt)
 fault-fits false = (lit≤ tt, lit≤ tt)
 
@@ -37,7 +36,7 @@ returns : tie.Need-returns
 returns c =
     let s = c .before .before in
     rw (c .open-fault .ensures)
-    ((λ records. sym (moved-out records _ _ (s .args .depth) (omega arith) (s .args .spawns) (s .args .ends) (s .pre .1) (omega arith) (outside _ (c .before .if1 .taken)))), fault-fits (s .args .spawns))
+    ((λ records. moved-out records _ _ (s .args .depth) (omega arith) (s .args .spawns) (s .args .ends) (s .pre .1) (omega arith) (outside _ (c .before .if1 .taken))), fault-fits (s .args .spawns))
 
 cast-begun : tie.Need-cast-begun
 cast-begun c = search needs
@@ -51,13 +50,13 @@ returns-2 : tie.Need-returns-2
 returns-2 c =
     let s = c .before .before in
     let i = inside _ (c .before .if1 .left) in
-    ((λ records. sym (moved-full records _ _ (s .args .depth) (omega arith) (s .args .spawns) (s .args .ends) (s .pre .1) (i .0) (i .1) (c .if2 .taken))), search needs)
+    ((λ records. moved-full records _ _ (s .args .depth) (omega arith) (s .args .spawns) (s .args .ends) (s .pre .1) (i .0) (i .1) (c .if2 .taken)), search needs)
 
 returns-3 : tie.Need-returns-3
 returns-3 c =
     let s = c .before .before in
     let i = inside (openAfter (s .args .depth) (s .args .spawns) (s .args .ends)) (c .before .if1 .left) in
-    ((λ records. sym (moved-on records _ _ (s .args .depth) (omega arith) (s .args .spawns) (s .args .ends) (s .pre .1) (i .0) (i .1) (c .if2 .left))), (omega (arith, i .0), i .1, omega arith, omega arith))
+    ((λ records. moved-on records _ _ (s .args .depth) (omega arith) (s .args .spawns) (s .args .ends) (s .pre .1) (i .0) (i .1) (c .if2 .left)), (omega (arith, i .0), i .1, omega arith, omega arith))
 
 pub structure-spec : {M : Type 1} → statement M
 structure-spec =
