@@ -15,7 +15,7 @@ use Rattle.jobfile.specs.declared.coding.Event.the-variants.{Read, Write
 use Rattle.jobfile.specs.declared.coding.Decoded.{Decoded}
 use Rattle.jobfile.specs.declared.coding.Decoded.the-variants.{Event as An, Refused}
 use Rattle.jobfile.specs.Coding.{eventOf, toldOf, decodeAt}
-use Rattle.jobfile.specs.Trailer.{quad}
+use Rattle.jobfile.specs.Trailer.{wordAt}
 use Rattle.jobfile.specs.Tasks.{moved, stepOn, stepOf, taskFault, Leads}
 use Rattle.jobfile.specs.declared.tasks.Step.{Step}
 use Rattle.jobfile.specs.declared.tasks.Step.the-variants.{Go, Stop, Unread}
@@ -83,10 +83,9 @@ module _ (bytes : List ℕ) (at : ℕ) (kind : getD bytes at 0 < 256) (second : 
   high : ℕ
   high = getD bytes (at + 2) 0 + 256 * getD bytes (at + 3) 0
 
-  pub packed-is : (w : ℕ) → w ≡ quad (getD bytes at 0) (getD bytes (at + 1) 0) (getD bytes (at + 2) 0) (getD bytes (at + 3) 0)
-      → decodeAt bytes at ≡ toldOf (w % 65536) (w / 65536)
-  unfolding low high
-  packed-is w e =
+  pub word-told : (w : ℕ) → w ≡ wordAt bytes at → decodeAt bytes at ≡ toldOf (w % 65536) (w / 65536)
+  unfolding low high wordAt
+  word-told w e =
       let split : w ≡ high * 65536 + low = omega (arith, e) in
       let below : low < 65536 = omega arith in
       rw (split, digits-div high below, digits-mod high below) (sym (told-is (getD bytes at 0) (getD bytes (at + 1) 0) high kind))

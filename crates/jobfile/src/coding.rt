@@ -1,12 +1,11 @@
 // An event: the four bytes, and the five things that they can say.
 ghost use mathlib.Core.Path.{_≡_};
 ghost use mathlib.Core.Bool.{_&&_};
-ghost use Prim.Native.Nat.{_+_, _*_, _/_, _%_, _≤_};
+ghost use Prim.Native.Nat.{_+_, _*_, _≤_};
 ghost use lib.Dec.{eqb};
 ghost use lib.ListN.{length};
 ghost use Rattle.jobfile.specs.Coding.{decodeAt, toldOf, numberOf, DecodeFits};
 ghost use Rattle.jobfile.specs.Trace.{eventAt};
-use crate::trailer::quad;
 
 // One of five things; two carry a record.
 pub enum Event {
@@ -83,15 +82,6 @@ pub fn number_of(d: Decoded) -> u32
         Decoded::Refused(k) => k,
         Decoded::Event(_) => 0,
     }
-}
-
-// The four bytes at `at` as one number: the record above, the kind and the zero byte below.
-// requires: the four bytes are there; the check walks a part that holds whole events.
-pub fn packed(part: &[u8], at: usize) -> usize
-    requires { ⌜ at + 4 ≤ length (now part) ⌝ }
-    ensures { λ r. ⌜ decodeAt (now (part .entry)) at ≡ toldOf (r % 65536) (r / 65536) ⌝ }
-{
-    quad(part[at], part[at + 1], part[at + 2], part[at + 3])
 }
 
 // Event number n of a part. Bytes that are refused stand for a sync; an accepted file shows none.
