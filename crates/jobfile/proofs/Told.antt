@@ -18,7 +18,7 @@ use Rattle.jobfile.specs.Coding.{eventOf, toldOf, decodeAt}
 use Rattle.jobfile.specs.Trailer.{wordAt}
 use Rattle.jobfile.specs.Tasks.{moved, stepOn, stepOf, taskFault, Leads}
 use Rattle.jobfile.specs.declared.tasks.Step.{Step}
-use Rattle.jobfile.specs.declared.tasks.Step.the-variants.{Go, Stop, Unread}
+use Rattle.jobfile.specs.declared.tasks.Step.the-variants.{Go, Stop, NoEvent}
 
 -- an event is no refusal
 no-event : {e : Event} {k : ℕ} → An e ≡ Refused k → ⊥
@@ -132,7 +132,7 @@ told-access records n tasks kind number t = go (eqb kind 4) refl (eqb kind 5) re
     written : (s : Step) → Leads s records tasks n (An (Read number)) → Leads s records tasks n (An (Write number))
     written (Go depth waits m) h = same ∙ h
     written (Stop k) h = same ∙ h
-    written Unread h = absurd (no-event h)
+    written NoEvent h = absurd (no-event h)
 
     go : (a : Bool) → eqb kind 4 ≡ a → (b : Bool) → eqb kind 5 ≡ b
         → (s : Step) → Leads s records tasks n (An (Read number)) → Leads s records tasks n (toldOf kind number)
