@@ -2,7 +2,7 @@
 use mathlib.Core.Path.{_≡_, refl, sym, _∙_}
 use mathlib.Core.Logic.{_≢_, _⊎_, ⊎-elim}
 use mathlib.Core.List.{List}
-use mathlib.Core.Bool.{Bool, true, false, cond, _&&_, _||_, false≢true}
+use mathlib.Core.Bool.{Bool, true, false, cond, _&&_, _||_}
 use Prim.Native.Nat.{ℕ, _+_, _*_, _/_, _%_, _<_, _≤_}
 use native.Mathlib.Nat.{add-zero}
 use native.Mathlib.Omega.{arith}
@@ -12,8 +12,8 @@ use lib.Arith.{digits-div, digits-mod}
 use borrow.Author.Tests.{ne-eqb, lt-ltb, eqb-true, eqb-false}
 use Rattle.jobfile.specs.declared.coding.Event.{Event}
 use Rattle.jobfile.specs.declared.coding.Event.the-variants.{Read, Write}
-use Rattle.jobfile.specs.declared.coding.Decoded.{Decoded}
 use Rattle.jobfile.specs.declared.coding.Decoded.the-variants.{Event as An, Refused}
+use Rattle.jobfile.proofs.Tests.{either}
 use Rattle.jobfile.specs.Coding.{eventOf, toldOf, decodeAt}
 use Rattle.jobfile.specs.Trailer.{wordAt}
 use Rattle.jobfile.specs.Tasks.{moved, stepOn, stepOf, taskFault, Leads}
@@ -124,7 +124,8 @@ told-over w o n = rw (bare 1 (omega arith), bare 2 (omega arith), bare 3 (omega 
 pub told-access : (records n : ℕ) (tasks : List Bool) (kind number : ℕ) → (eqb kind 4 || eqb kind 5) ≡ true
     → (s : Step) → Leads s records tasks n (An (Read number)) → Leads s records tasks n (toldOf kind number)
 unfolding toldOf stepOn taskFault
-told-access records n tasks kind number t = go (eqb kind 4) refl (eqb kind 5) refl
+told-access records n tasks kind number t s h =
+    ⊎-elim (λ p. rw (eqb-true kind 4 p) h) (λ q. rw (eqb-true kind 5 q) (written s h)) (either (eqb kind 4) (eqb kind 5) t)
   where
     same : stepOf records tasks n (An (Write number)) ≡ stepOf records tasks n (An (Read number))
     same = refl
@@ -133,9 +134,3 @@ told-access records n tasks kind number t = go (eqb kind 4) refl (eqb kind 5) re
     written (Go depth waits m) h = same ∙ h
     written (Stop k) h = same ∙ h
     written NoEvent h = absurd (no-event h)
-
-    go : (a : Bool) → eqb kind 4 ≡ a → (b : Bool) → eqb kind 5 ≡ b
-        → (s : Step) → Leads s records tasks n (An (Read number)) → Leads s records tasks n (toldOf kind number)
-    go true p b q s h = rw (eqb-true kind 4 p) h
-    go false p true q s h = rw (eqb-true kind 5 q) (written s h)
-    go false p false q s h = absurd (false≢true (rw (p, q) at t))

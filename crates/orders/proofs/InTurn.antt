@@ -8,11 +8,11 @@ use Prim.Native.Nat.{ℕ, zero, suc, _+_, _-_, _/_, _^_, _<_, _≤_}
 use native.Mathlib.Omega.{arith}
 use lib.ListN.{length, getD, set, length-set, length-append, List·getD-append}
 use lib.Seq.{set-getD, getD-set-other}
-use lib.Dec.{eqb, leb}
+use lib.Dec.{eqb}
 use borrow.Author.Tests.{eqb-true, eqb-false, le-leb, lt-leb}
 use Rattle.orders.specs.Lists.{Out}
 use Rattle.orders.specs.Order.{nextIn, labelIn, spaced, differ, insertAfter, linked, relabel, changes, above, placed, placings}
-use Rattle.orders.specs.Model.{State, first, headOf, nextOf, spread, hasRoom, insertLab, insertState, Holds, Insertable, Inserted}
+use Rattle.orders.specs.Model.{State, first, headOf, nextOf, spread, hasRoom, insertLab, insertState, Insertable, Inserted}
 use Rattle.orders.specs.InTurn.{strandsFrom, InTurn, Appendable, Appends}
 use Rattle.orders.proofs.Respaced.{differ-same}
 use Rattle.orders.proofs.Labels.{spread-first, insertState-size, insertState-ord}

@@ -5,37 +5,26 @@
 -- first, stops at the earliest access that races with any earlier one. Assumes nothing.
 use mathlib.Core.Path.{_≡_, refl, sym, ap, _∙_}
 use mathlib.Core.Logic.{_⊎_, inl, inr, ⊎-elim}
-use mathlib.Core.Bool.{Bool, true, false, false≢true, _&&_, _||_, or-true}
+use mathlib.Core.Bool.{true, false, false≢true, _&&_, _||_, or-true}
 use mathlib.Core.Option.{Option, none, some}
 use Prim.Native.Nat.{ℕ, zero, suc, _<_}
 use lib.Dec.{eqb}
 use borrow.Author.Tests.{eqb-true, eq-eqb}
 use Rattle.jobfile.specs.declared.coding.Event.{Event}
 use Rattle.jobfile.specs.declared.coding.Event.the-variants.{Read, Write}
+use Rattle.jobfile.proofs.Tests.{both, either}
 use Rattle.relation.specs.Walk.{par}
 use Rattle.races.specs.Search.{orHere, least}
 use Rattle.races.specs.Race.{Access, other, read, write, accessOf, recordOf, conflict, races, raced, secondIn}
 use Rattle.races.specs.Places.{parTo, readsOf, writesOf, lastWrite, standing, writeHit, readHit, found}
 use Rattle.races.proofs.Search.{below, not-true, true-together, any-finds, any-has, Least, least-is, least-only}
-use Rattle.races.proofs.Places.{both, holds-some, is-write, last-speaks, standing-speaks, last-write-is, standing-read-is}
-
-both-left : (a b : Bool) → (a && b) ≡ true → a ≡ true
-both-left true b t = refl
-both-left false b t = t
-
-both-right : (a b : Bool) → (a && b) ≡ true → b ≡ true
-both-right true b t = t
-both-right false b t = absurd (false≢true t)
-
-either : (a b : Bool) → (a || b) ≡ true → (a ≡ true) ⊎ (b ≡ true)
-either true b t = inl refl
-either false b t = inr t
+use Rattle.races.proofs.Places.{together, holds-some, is-write, last-speaks, standing-speaks, last-write-is, standing-read-is}
 
 module _ (ev : ℕ → Event) where
   pub races-is : (m j : ℕ) → recordOf (ev m) ≡ recordOf (ev j) → conflict (accessOf (ev m)) (accessOf (ev j)) ≡ true → par ev m j ≡ true
       → races ev m j ≡ true
   unfolding races
-  races-is m j e c t = both (eq-eqb (recordOf (ev m)) (recordOf (ev j)) e) (both c t)
+  races-is m j e c t = together (eq-eqb (recordOf (ev m)) (recordOf (ev j)) e) (together c t)
 
   pub record Racing (m j : ℕ) : Type 0 where
     pub one-record : recordOf (ev m) ≡ recordOf (ev j)
@@ -47,11 +36,12 @@ module _ (ev : ℕ → Event) where
   races-parts m j t =
       let c = conflict (accessOf (ev m)) (accessOf (ev j)) in
       let s = eqb (recordOf (ev m)) (recordOf (ev j)) in
-      let u = both-right s (c && par ev m j) t in
+      let p = both s (c && par ev m j) t in
+      let q = both c (par ev m j) (p .1) in
       record {
-        one-record = eqb-true (recordOf (ev m)) (recordOf (ev j)) (both-left s (c && par ev m j) t);
-        clash = both-left c (par ev m j) u;
-        parallel = both-right c (par ev m j) u;
+        one-record = eqb-true (recordOf (ev m)) (recordOf (ev j)) (p .0);
+        clash = q .0;
+        parallel = q .1;
       }
 
   pub raced-by : (m j : ℕ) → m < j → races ev m j ≡ true → raced ev j ≡ true
@@ -128,8 +118,7 @@ module _ (ev : ℕ → Event) where
   unfolding found
   found-parts j t =
       let a = accessOf (ev j) in
-      ⊎-elim (λ u. inl (both-left (conflict write a) (writeHit ev j) u, both-right (conflict write a) (writeHit ev j) u))
-      (λ u. inr (both-left (conflict read a) (readHit ev j) u, both-right (conflict read a) (readHit ev j) u))
+      ⊎-elim (λ u. inl (both (conflict write a) (writeHit ev j) u)) (λ u. inr (both (conflict read a) (readHit ev j) u))
       (either (conflict write a && writeHit ev j) (conflict read a && readHit ev j) t)
 
   -- what the places find is a race, whatever came before

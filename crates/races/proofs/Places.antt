@@ -18,8 +18,8 @@ use Rattle.races.specs.Race.{other, accessOf, recordOf}
 use Rattle.races.specs.Places.{isRead, isWrite, holds, stood, parTo, standingOf, readsOf, writesOf, lastWrite, standing}
 use Rattle.races.proofs.Search.{below, Last, last-is}
 
-pub both : {a b : Bool} → a ≡ true → b ≡ true → (a && b) ≡ true
-both e f = rw (e, f)
+pub together : {a b : Bool} → a ≡ true → b ≡ true → (a && b) ≡ true
+together e f = rw (e, f)
 
 -- what a place holds, if that passes
 pub holds-some : (test : ℕ → Bool) (o : Option ℕ) → holds test o ≡ true → (m : ℕ) × (o ≡ some m) × (test m ≡ true)

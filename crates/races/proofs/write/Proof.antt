@@ -2,18 +2,15 @@
 use mathlib.Core.Path.{_≡_, refl, sym, _∙_}
 use mathlib.Core.Bool.{Bool, true, false, _||_}
 use Rattle.jobfile.specs.declared.coding.Event.the-variants.{Write}
+use Rattle.jobfile.proofs.Tests.{neither}
 use Rattle.races.proofs.Accesses.{last-write-found, standing-read-found, write-taken}
 use borrow.Author.Needs.{needs}
 use Rattle.races.proofs.write.Statement.{statement}
 use Rattle.races.proofs.write.Tie as tie
 
--- what both answers say together
+-- the second answer, if one of them is yes and the first is not
 second : (a b : Bool) → (a || b) ≡ true → a ≡ false → b ≡ true
 second a b t f = rw f at t
-
-neither : (a b : Bool) → (a || b) ≡ false → (a ≡ false) × (b ≡ false)
-neither true b f = (f, cc)
-neither false b f = (refl, f)
 
 meets-requires : tie.Need-meets-requires
 meets-requires c κs = search needs
