@@ -30,8 +30,7 @@ fn pair(low: u8, high: u8) -> u16
 }
 
 // The event of a kind and a record. A kind of two bytes is one of 1 to 5 only if the second byte is 0, so refusal 8 is what is left.
-// Told in this order, a processor guesses few branches wrong: one at a spawn, end or sync, and at an access whether it is a write, and
-// that only where reads and writes are not treated alike.
+// Told in this order, a processor guesses few branches wrong: one at a spawn, end or sync, and at an access only whether it is a write.
 fn event_of(kind: u16, number: u16) -> Decoded
     ensures { λ r. ⌜ r ≡ toldOf kind number ⌝ }
     ensures { λ r. ⌜ DecodeFits r ⌝ }
