@@ -10,8 +10,8 @@ use lib.Dec.{eqb, ltb}
 use lib.ListN.{getD}
 use lib.Arith.{digits-div, digits-mod}
 use borrow.Author.Tests.{ne-eqb, lt-ltb, eqb-true, eqb-false}
-use Rattle.jobfile.specs.declared.coding.Event.{Event}
-use Rattle.jobfile.specs.declared.coding.Event.the-variants.{Read, Write}
+use Rattle.jobfile.specs.declared.event.Event.{Event}
+use Rattle.jobfile.specs.declared.event.Event.the-variants.{Read, Write}
 use Rattle.jobfile.specs.declared.coding.Decoded.the-variants.{Event as An, Refused}
 use Rattle.jobfile.proofs.Tests.{either}
 use Rattle.jobfile.specs.Coding.{eventOf, toldOf, decodeAt}

@@ -5,7 +5,7 @@ use mathlib.Core.List.{List}
 use mathlib.Core.Bool.{cond, _&&_, _||_}
 use lib.ListN.{getD}
 use lib.Dec.{eqb, ltb}
-use Rattle.jobfile.specs.declared.coding.Event.the-variants.{Spawn, End, Sync, Read, Write}
+use Rattle.jobfile.specs.declared.event.Event.the-variants.{Spawn, End, Sync, Read, Write}
 use Rattle.jobfile.specs.declared.coding.Decoded.{Decoded}
 use Rattle.jobfile.specs.declared.coding.Decoded.the-variants.{Event as An, Refused}
 

@@ -1,4 +1,4 @@
-// An event: the four bytes, and the five things that they can say.
+// The four bytes of an event, and which of the five things they say.
 ghost use mathlib.Core.Path.{_≡_};
 ghost use mathlib.Core.Bool.{_&&_};
 ghost use Prim.Native.Nat.{_+_, _*_, _≤_};
@@ -6,15 +6,7 @@ ghost use lib.Dec.{eqb};
 ghost use lib.ListN.{length};
 ghost use Rattle.jobfile.specs.Coding.{decodeAt, toldOf, numberOf, DecodeFits};
 ghost use Rattle.jobfile.specs.Trace.{eventAt};
-
-// One of five things; two carry a record.
-pub enum Event {
-    Spawn,
-    End,
-    Sync,
-    Read(u16),
-    Write(u16),
-}
+use crate::event::Event;
 
 // What four bytes are read as: an event, or the number of a refusal.
 pub enum Decoded {

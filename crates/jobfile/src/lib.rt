@@ -3,14 +3,20 @@
 // Every byte string is dealt with: a file is accepted, or refused by its number. No public entry
 // point has a `requires`, and nothing here writes to a caller's buffer.
 mod coding;
+mod event;
 mod refusal;
 mod tasks;
 mod trailer;
 
 pub use coding::Decoded;
-pub use coding::Event;
 pub use coding::decode;
 pub use coding::event_at;
+pub use event::Access;
+pub use event::Event;
+pub use event::Kind;
+pub use event::Move;
+pub use event::access_of;
+pub use event::move_of;
 pub use refusal::Refusal;
 pub use refusal::refuse;
 pub use tasks::Traced;

@@ -7,7 +7,7 @@ use native.Mathlib.Omega.{arith}
 use lib.ListN.{length}
 use Rattle.jobfile.specs.Trace.{eventAt}
 use Rattle.jobfile.specs.Accepted.{RecordBelow}
-use Rattle.jobfile.specs.declared.coding.Event.{Event}
+use Rattle.jobfile.specs.declared.event.Event.{Event}
 use Rattle.relation.specs.Parallel.{Rooted}
 use Rattle.relation.proofs.Strand.{begun-some}
 use Rattle.strands.specs.Standing.{Standing, Takes, Ready, Advanced}

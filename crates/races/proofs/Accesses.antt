@@ -8,8 +8,8 @@ use Prim.Native.Nat.{ℕ, suc, _+_, _≤_, _<_}
 use native.Mathlib.Omega.{arith}
 use lib.ListN.{getD}
 use borrow.Author.Tests.{lt-ltb, le-ltb}
-use Rattle.jobfile.specs.declared.coding.Event.{Event}
-use Rattle.jobfile.specs.declared.coding.Event.the-variants.{Read, Write}
+use Rattle.jobfile.specs.declared.event.Event.{Event}
+use Rattle.jobfile.specs.declared.event.Event.the-variants.{Read, Write}
 use Rattle.relation.specs.Strand.{strandAt}
 use Rattle.relation.proofs.Strand.{begun-some, begun-rises}
 use Rattle.races.specs.Race.{write, accessOf, recordOf, conflict, secondIn}

@@ -4,8 +4,8 @@ use mathlib.Core.List.{List, [], _∷_, map}
 use Prim.Native.Nat.{ℕ}
 use lib.ListN.{length, getD}
 use Rattle.jobfile.specs.Trace.{tasksAt, begunAt}
-use Rattle.jobfile.specs.declared.coding.Event.{Event}
-use Rattle.jobfile.specs.declared.coding.Event.the-variants.{Spawn as S, End as E, Sync as J, Read as R, Write as W}
+use Rattle.jobfile.specs.declared.event.Event.{Event}
+use Rattle.jobfile.specs.declared.event.Event.the-variants.{Spawn as S, End as E, Sync as J, Read as R, Write as W}
 use Rattle.relation.specs.Walk.{opened, moveAt, walkFor, walk}
 use Rattle.races.specs.Search.{any, least, last}
 use Rattle.races.specs.Race.{races, raced}

@@ -11,7 +11,7 @@ use lib.Dec.{eqb}
 use lib.ListN.{length, getD, set, length-set}
 use lib.Seq.{getD-set-same, getD-set-other, set-getD, lt-length-set}
 use borrow.Author.Tests.{eqb-true, eqb-false}
-use Rattle.jobfile.specs.declared.coding.Event.{Event}
+use Rattle.jobfile.specs.declared.event.Event.{Event}
 use Rattle.races.specs.Shown.{eventOr, strandOr}
 use Rattle.races.specs.Entries.{put, Emptied}
 

@@ -10,8 +10,8 @@ use mathlib.Core.Option.{Option, none, some}
 use Prim.Native.Nat.{ℕ, zero, suc, _<_}
 use lib.Dec.{eqb}
 use borrow.Author.Tests.{eqb-true, eq-eqb}
-use Rattle.jobfile.specs.declared.coding.Event.{Event}
-use Rattle.jobfile.specs.declared.coding.Event.the-variants.{Read, Write}
+use Rattle.jobfile.specs.declared.event.Event.{Event}
+use Rattle.jobfile.specs.declared.event.Event.the-variants.{Read, Write}
 use Rattle.jobfile.proofs.Tests.{both, either}
 use Rattle.relation.specs.Walk.{par}
 use Rattle.races.specs.Search.{orHere, least}

@@ -9,8 +9,8 @@ use native.Mathlib.Omega.{arith}
 use native.Mathlib.Decide.{decLe}
 use lib.Dec.{eqb}
 use borrow.Author.Tests.{eqb-true, eq-eqb, ne-eqb}
-use Rattle.jobfile.specs.declared.coding.Event.{Event}
-use Rattle.jobfile.specs.declared.coding.Event.the-variants.{Spawn, End, Sync, Read, Write}
+use Rattle.jobfile.specs.declared.event.Event.{Event}
+use Rattle.jobfile.specs.declared.event.Event.the-variants.{Spawn, End, Sync, Read, Write}
 use Rattle.relation.specs.Walk.{Walker, par}
 use Rattle.relation.proofs.Walk.{walk-start, par-trans}
 use Rattle.races.specs.Search.{last}

@@ -4,7 +4,7 @@ use mathlib.Core.Bool.{Bool, cond, _||_}
 use mathlib.Core.Option.{Option, none, some, Option·getD}
 use Prim.Native.Nat.{ℕ, zero, suc, _≤_, _<_}
 use native.Mathlib.Omega.{arith}
-use Rattle.jobfile.specs.declared.coding.Event.{Event}
+use Rattle.jobfile.specs.declared.event.Event.{Event}
 use Rattle.relation.specs.Walk.{Walker, par}
 use Rattle.relation.proofs.Prefix.{walk-same}
 use Rattle.races.specs.Search.{any, orHere, least, last}

@@ -13,8 +13,8 @@ use lib.Dec.{eqb}
 use lib.ListN.{length, getD}
 use lib.Seq.{ext-getD}
 use borrow.Author.Tests.{eqb-true, eqb-false}
-use Rattle.jobfile.specs.declared.coding.Event.{Event}
-use Rattle.jobfile.specs.declared.coding.Event.the-variants.{Read, Write}
+use Rattle.jobfile.specs.declared.event.Event.{Event}
+use Rattle.jobfile.specs.declared.event.Event.the-variants.{Read, Write}
 use Rattle.relation.specs.Strand.{strandAt}
 use Rattle.races.specs.Race.{other, accessOf}
 use Rattle.races.specs.Places.{holds, stood, parTo, lastWrite, standing}

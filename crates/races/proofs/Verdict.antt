@@ -4,8 +4,8 @@ use mathlib.Core.Path.{_≡_, _∙_}
 use mathlib.Core.Bool.{true, false, _||_, or-false}
 use mathlib.Core.Option.{none, some}
 use Prim.Native.Nat.{ℕ, suc, _<_}
-use Rattle.jobfile.specs.declared.coding.Event.{Event}
-use Rattle.jobfile.specs.declared.coding.Event.the-variants.{Read, Write}
+use Rattle.jobfile.specs.declared.event.Event.{Event}
+use Rattle.jobfile.specs.declared.event.Event.the-variants.{Read, Write}
 use Rattle.relation.specs.Walk.{par}
 use Rattle.races.specs.Race.{other, write, accessOf, recordOf, conflict, secondIn}
 use Rattle.races.specs.Places.{holds, parTo, lastWrite, standing, writeHit, firstOf, found}

@@ -7,7 +7,7 @@ use Prim.Native.Nat.{ℕ, suc, _+_, _≤_, _<_}
 use lib.ListN.{length, getD}
 use lib.Dec.{ltb}
 use Rattle.jobfile.specs.Trace.{begunAt}
-use Rattle.jobfile.specs.declared.coding.Event.{Event}
+use Rattle.jobfile.specs.declared.event.Event.{Event}
 use Rattle.relation.specs.Walk.{par}
 use Rattle.relation.specs.Strand.{strandAt}
 use Rattle.races.specs.Race.{secondIn}

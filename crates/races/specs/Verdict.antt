@@ -3,7 +3,7 @@ use mathlib.Core.Path.{_≡_}
 use mathlib.Core.Logic.{_⊎_}
 use Prim.Native.Nat.{ℕ, _<_}
 use mathlib.Core.Option.{Option, none, some, Option·getD}
-use Rattle.jobfile.specs.declared.coding.Event.{Event}
+use Rattle.jobfile.specs.declared.event.Event.{Event}
 use Rattle.relation.specs.Parallel.{Parallel}
 use Rattle.races.specs.Race.{recordOf, Race, secondIn}
 use Rattle.races.specs.Places.{lastWrite, standing, firstOf}

@@ -4,8 +4,8 @@ ghost use mathlib.Core.Path.{_≡_};
 ghost use mathlib.Core.Bool.{cond};
 ghost use Prim.Native.Nat.{ℕ, _+_, _<_, _≤_};
 ghost use lib.ListN.{length};
-ghost use Rattle.jobfile.specs.declared.coding.Event.{Event};
-ghost use Rattle.jobfile.specs.declared.coding.Event.the-variants.{Read, Write};
+ghost use Rattle.jobfile.specs.declared.event.Event.{Event};
+ghost use Rattle.jobfile.specs.declared.event.Event.the-variants.{Read, Write};
 ghost use Rattle.races.specs.Entries.{heldOr, metIn, put, Emptied, Place};
 ghost use Rattle.races.specs.Shown.{Shown, Askable, Answers};
 

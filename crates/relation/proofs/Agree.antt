@@ -10,8 +10,8 @@ use Prim.Native.Nat.{ℕ, zero, suc, _+_, _-_, _≤_, _<_}
 use native.Mathlib.Omega.{arith}
 use native.Mathlib.Decide.{decLe}
 use Rattle.jobfile.specs.Trace.{depthAt, tasksAt}
-use Rattle.jobfile.specs.declared.coding.Event.{Event}
-use Rattle.jobfile.specs.declared.coding.Event.the-variants.{Spawn, End, Sync, Read, Write}
+use Rattle.jobfile.specs.declared.event.Event.{Event}
+use Rattle.jobfile.specs.declared.event.Event.the-variants.{Spawn, End, Sync, Read, Write}
 use Rattle.relation.specs.Parallel.{By, Parallel, Rooted}
 use Rattle.relation.specs.Walk.{isSpawn, Move, moveOf, restack, headOr, moved, move, opened, spawned, moveAt, walk, par}
 use Rattle.relation.proofs.Depth.{bump, depth-at, last-or}

@@ -7,7 +7,7 @@ use native.Mathlib.Omega.{arith}
 use lib.Dec.{ltb}
 use borrow.Author.Tests.{eq-eqb, ne-eqb, lt-ltb, le-ltb, ltb-true}
 use Rattle.jobfile.specs.Refusals.{refusalOf}
-use Rattle.jobfile.specs.declared.coding.Event.{Event}
+use Rattle.jobfile.specs.declared.event.Event.{Event}
 use Rattle.relation.specs.Between.{Walkable}
 use Rattle.relation.specs.Question.{isAccess, compareOf, askedOf}
 use Rattle.relation.specs.Walk.{par}

@@ -8,8 +8,8 @@ use native.Mathlib.Omega.{arith}
 use native.Mathlib.Decide.{decLe}
 use lib.ListN.{length}
 use Rattle.jobfile.specs.Trace.{tasksNext, tasksAt, depthAt}
-use Rattle.jobfile.specs.declared.coding.Event.{Event}
-use Rattle.jobfile.specs.declared.coding.Event.the-variants.{Spawn, End, Sync, Read, Write}
+use Rattle.jobfile.specs.declared.event.Event.{Event}
+use Rattle.jobfile.specs.declared.event.Event.the-variants.{Spawn, End, Sync, Read, Write}
 
 -- the number after an event
 abbrev pub bump : Event → ℕ → ℕ

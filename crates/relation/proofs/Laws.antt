@@ -4,7 +4,7 @@ use mathlib.Core.Logic.{_⊎_, inl, inr, _↔_}
 use mathlib.Core.Bool.{Bool, true, false, false≢true}
 use Prim.Native.Nat.{ℕ, _≤_, _<_}
 use native.Mathlib.Omega.{arith}
-use Rattle.jobfile.specs.declared.coding.Event.{Event}
+use Rattle.jobfile.specs.declared.event.Event.{Event}
 use Rattle.relation.specs.Parallel.{Parallel, Before, Rooted}
 use Rattle.relation.specs.Strand.{strandAt, birth}
 use Rattle.relation.specs.Walk.{par}

@@ -9,7 +9,7 @@ use native.Mathlib.Omega.{arith}
 use native.Mathlib.Decide.{decLe}
 use Rattle.jobfile.proofs.Whole.{accepted}
 use Rattle.jobfile.specs.declared.Job.{Job}
-use Rattle.jobfile.specs.declared.coding.Event.{Event}
+use Rattle.jobfile.specs.declared.event.Event.{Event}
 use Rattle.relation.specs.Parallel.{Parallel as IsParallel, Before as IsBefore, Rooted}
 use Rattle.relation.specs.Question.{answerNumber, Says, compareOf, eventsOf, Accesses, questionOf}
 use Rattle.relation.specs.Walk.{par}

@@ -6,8 +6,8 @@ use Prim.Native.Nat.{ℕ, zero, suc, _+_, _≤_}
 use native.Mathlib.Omega.{arith}
 use native.Mathlib.Numerals.{add-one}
 use Rattle.jobfile.specs.Trace.{depthAt}
-use Rattle.jobfile.specs.declared.coding.Event.{Event}
-use Rattle.jobfile.specs.declared.coding.Event.the-variants.{Spawn, End, Sync, Read, Write}
+use Rattle.jobfile.specs.declared.event.Event.{Event}
+use Rattle.jobfile.specs.declared.event.Event.the-variants.{Spawn, End, Sync, Read, Write}
 use Rattle.relation.specs.Parallel.{Rooted}
 use Rattle.relation.specs.Walk.{isSpawn, moveOf, restack, headOr, Walker, move, opened, spawned, moveAt, walk}
 use Rattle.relation.proofs.Agree.{only-root}

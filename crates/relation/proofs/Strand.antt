@@ -11,8 +11,8 @@ use native.Mathlib.Decide.{decLe}
 use borrow.Author.Tests.{lt-ltb, le-ltb}
 use lib.ListN.{length, getD}
 use Rattle.jobfile.specs.Trace.{tasksNext, begins, tasksAt, begunAt}
-use Rattle.jobfile.specs.declared.coding.Event.{Event}
-use Rattle.jobfile.specs.declared.coding.Event.the-variants.{Spawn, End, Sync, Read, Write}
+use Rattle.jobfile.specs.declared.event.Event.{Event}
+use Rattle.jobfile.specs.declared.event.Event.the-variants.{Spawn, End, Sync, Read, Write}
 use Rattle.relation.specs.Parallel.{Rooted}
 use Rattle.relation.specs.Strand.{strandAt, birth}
 use Rattle.relation.specs.Walk.{moveOf, Walker, moved, move, start, spawned, moveAt, walk, par}

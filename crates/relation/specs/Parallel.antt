@@ -3,8 +3,8 @@ use mathlib.Core.Path.{_≡_}
 use mathlib.Core.Logic.{_≢_}
 use Prim.Native.Nat.{ℕ, suc, _≤_, _<_}
 use Rattle.jobfile.specs.Trace.{depthAt}
-use Rattle.jobfile.specs.declared.coding.Event.{Event}
-use Rattle.jobfile.specs.declared.coding.Event.the-variants.{Spawn, End, Sync}
+use Rattle.jobfile.specs.declared.event.Event.{Event}
+use Rattle.jobfile.specs.declared.event.Event.the-variants.{Spawn, End, Sync}
 
 -- A position p is the point just before event p; an access i stands at position i, and a strand at the position where it begins.
 -- "Of accesses i < j, i is parallel to j exactly if some spawned task contains i (between its spawn and its end, tasks under it

@@ -11,8 +11,8 @@ use Rattle.jobfile.specs.Trace.{eventAt}
 use Rattle.jobfile.specs.declared.Checked.{Checked}
 use Rattle.jobfile.specs.declared.Checked.the-variants.{Accepted, Refused as Unread}
 use Rattle.jobfile.specs.declared.Job.{Job}
-use Rattle.jobfile.specs.declared.coding.Event.{Event}
-use Rattle.jobfile.specs.declared.coding.Event.the-variants.{Spawn, End, Sync, Read, Write}
+use Rattle.jobfile.specs.declared.event.Event.{Event}
+use Rattle.jobfile.specs.declared.event.Event.the-variants.{Spawn, End, Sync, Read, Write}
 use Rattle.relation.specs.Parallel.{Before as IsBefore, Parallel as IsParallel}
 use Rattle.relation.specs.Walk.{par}
 use Rattle.relation.specs.declared.Answer.{Answer}

@@ -3,7 +3,7 @@ use mathlib.Core.Bool.{cond}
 use Prim.Native.Nat.{ℕ, zero, suc, _-_}
 use lib.Dec.{ltb}
 use Rattle.jobfile.specs.Trace.{begunAt}
-use Rattle.jobfile.specs.declared.coding.Event.{Event}
+use Rattle.jobfile.specs.declared.event.Event.{Event}
 
 module _ (ev : ℕ → Event) where
   -- "Strands are numbered as they begin": the current strand is always the one begun last

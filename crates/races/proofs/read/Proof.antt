@@ -1,6 +1,6 @@
 -- `read` meets its contract: the answers of the two questions say which way the read goes. Assumes nothing.
 use mathlib.Core.Path.{refl, sym, _∙_}
-use Rattle.jobfile.specs.declared.coding.Event.the-variants.{Read}
+use Rattle.jobfile.specs.declared.event.Event.the-variants.{Read}
 use Rattle.races.proofs.Accesses.{last-write-found, read-passed}
 use borrow.Author.Needs.{needs}
 use Rattle.races.proofs.read.Statement.{statement}

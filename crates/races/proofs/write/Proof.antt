@@ -1,7 +1,7 @@
 -- `write` meets its contract: the answers of the two questions say which way the write goes. Assumes nothing.
 use mathlib.Core.Path.{_≡_, refl, sym, _∙_}
 use mathlib.Core.Bool.{Bool, true, false, _||_}
-use Rattle.jobfile.specs.declared.coding.Event.the-variants.{Write}
+use Rattle.jobfile.specs.declared.event.Event.the-variants.{Write}
 use Rattle.jobfile.proofs.Tests.{neither}
 use Rattle.races.proofs.Accesses.{last-write-found, standing-read-found, write-taken}
 use borrow.Author.Needs.{needs}

@@ -1,0 +1,51 @@
+-- `jobfile::event::access_of` meets its contract: the definition's clauses, one by one. Assumes nothing.
+use mathlib.Core.Path.{sym, ap}
+use Rattle.jobfile.specs.Events.{accessOf}
+use borrow.Author.Needs.{needs}
+use Rattle.jobfile.proofs.event.access_of.Statement.{statement}
+use Rattle.jobfile.proofs.event.access_of.Tie as tie
+
+enum-told : tie.Need-enum-told
+enum-told c = search needs
+
+enum-told-2 : tie.Need-enum-told-2
+enum-told-2 c = search needs
+
+enum-told-3 : tie.Need-enum-told-3
+enum-told-3 c = search needs
+
+enum-known-e : tie.Need-enum-known-e
+enum-known-e c = search needs
+
+enum-known-e-2 : tie.Need-enum-known-e-2
+enum-known-e-2 c = search needs
+
+returns : tie.Need-returns
+returns c = search needs
+
+returns-2 : tie.Need-returns-2
+returns-2 c = search needs
+
+returns-3 : tie.Need-returns-3
+returns-3 c = search needs
+
+returns-4 : tie.Need-returns-4
+returns-4 c = sym (ap accessOf (c .before .e .given .1))
+
+returns-5 : tie.Need-returns-5
+returns-5 c = sym (ap accessOf (c .before .e2 .given .1))
+
+pub access-of-spec : {M : Type 1} → statement M
+access-of-spec =
+    tie.close
+    (tie.spec
+    enum-told
+    enum-told-2
+    enum-told-3
+    enum-known-e
+    enum-known-e-2
+    returns
+    returns-2
+    returns-3
+    returns-4
+    returns-5)
