@@ -92,15 +92,15 @@ fn write_numbers(w: Written) -> [u64; 3]
 }
 
 // The numbers of a question's answer.
-fn question_numbers(a: relation::Answer) -> [u64; 3]
+fn question_numbers(a: relation::Related) -> [u64; 3]
     ensures { λ r. ⌜ r ≡ questionNumbers a ⌝ }
 {
     match a {
-        relation::Answer::Same => [0, 0, 0],
-        relation::Answer::Before => [0, 0, 1],
-        relation::Answer::After => [0, 0, 2],
-        relation::Answer::Parallel => [0, 0, 3],
-        relation::Answer::Refused(r) => [r.number as u64, r.event as u64, 0],
+        relation::Related::Same => [0, 0, 0],
+        relation::Related::Before => [0, 0, 1],
+        relation::Related::After => [0, 0, 2],
+        relation::Related::Parallel => [0, 0, 3],
+        relation::Related::Refused(r) => [r.number as u64, r.event as u64, 0],
     }
 }
 
