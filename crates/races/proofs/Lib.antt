@@ -1,10 +1,11 @@
 pub mod Search
-pub mod Places
+pub mod Standing
 pub mod Found
-pub mod Verdict
-pub mod Named
-pub mod Cases
-pub mod Prefix
+pub mod Places
+pub mod Records
+pub mod OneRace
 pub mod Entries
-pub mod Shown
 pub mod Accesses
+pub mod Shown
+pub mod Emptied
+pub mod Mark
