@@ -9,3 +9,6 @@ pub mod Accesses
 pub mod Shown
 pub mod Emptied
 pub mod Mark
+pub mod Named
+pub mod Prefix
+pub mod Cases

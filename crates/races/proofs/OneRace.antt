@@ -3,7 +3,7 @@
 use mathlib.Core.Path.{_≡_, refl, sym, ap, _∙_}
 use mathlib.Core.Logic.{_↔_}
 use mathlib.Core.Bool.{true, false, false≢true}
-use mathlib.Core.Option.{Option, none, some}
+use mathlib.Core.Option.{Option, none, some, Option·getD}
 use Prim.Native.Nat.{ℕ, suc, _≤_, _<_}
 use native.Mathlib.Omega.{arith}
 use native.Mathlib.Decide.{decLe}
@@ -49,6 +49,24 @@ module _ (R : Rules) (T : Trace) where
       → (verdictIn R T k ≡ race i j r) × (stopIn R T k ≡ j)
   unfolding verdictIn stopIn
   race-at k j i r e own f = (rw (e, own, f), rw e)
+
+  -- where judging k events stops, nothing has raced
+  pub stop-quiet : (k : ℕ) → secondIn R T (stopIn R T k) ≡ none
+  unfolding stopIn
+  stop-quiet k = by (secondIn R T k) refl (least-is (racedAny R T) k)
+    where
+      by : (o : Option ℕ) → secondIn R T k ≡ o → Least (racedAny R T) k o → secondIn R T (Option·getD o k) ≡ none
+      by none e l = e
+      by (some j) e l = second-least j none (l .2)
+
+  -- and that is within them
+  pub stop-within : (k : ℕ) → stopIn R T k ≤ k
+  unfolding stopIn
+  stop-within k = by (secondIn R T k) (least-is (racedAny R T) k)
+    where
+      by : (o : Option ℕ) → Least (racedAny R T) k o → Option·getD o k ≤ k
+      by none l = omega arith
+      by (some j) l = omega arith
 
   -- The turns of a run that has found nothing before event n.
   module _ (law : Lawful T) (fit : Fit R T) (n : ℕ) (e : secondIn R T n ≡ none) where

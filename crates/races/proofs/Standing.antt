@@ -115,3 +115,20 @@ module _ (T : Trace) (law : Lawful T) where
 
     pub held-below : (latest : Bool) (n s : ℕ) → heldOf T latest class n ≡ some s → (s < n) × (class s ≡ true)
     held-below latest n s e = let k : Holds n (some s) = rw e at (held-holds latest n) in k
+
+    -- where the last one is kept, it is the last of the class
+    abbrev pub LastOf : ℕ → Option ℕ → Type 0
+    LastOf n none = (m : ℕ) → m < n → class m ≡ false
+    LastOf n (some w) = (w < n) × (class w ≡ true) × ((m : ℕ) → m < n → class m ≡ true → m ≤ w)
+
+    last-step : (n : ℕ) (b : Bool) (o : Option ℕ) → class n ≡ b → LastOf n o → LastOf (suc n) (cond b (stood true (parTo T n) n o) o)
+    last-step n true none e l = (omega arith, e, λ m mn z. omega arith)
+    last-step n true (some s) e l = (omega arith, e, λ m mn z. omega arith)
+    last-step n false none e l = below (λ m. class m ≡ false) n l e
+    last-step n false (some s) e l =
+        (omega arith, l .1, below (λ m. class m ≡ true → m ≤ s) n (l .2) (λ z. absurd (false≢true (sym e ∙ z))))
+
+    pub held-last : (n : ℕ) → LastOf n (heldOf T true class n)
+    unfolding heldOf
+    held-last zero = λ m l. absurd (omega arith)
+    held-last (suc n) = last-step n (class n) (heldOf T true class n) refl (held-last n)
