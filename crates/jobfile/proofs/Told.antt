@@ -16,7 +16,7 @@ use Rattle.jobfile.specs.declared.coding.Decoded.the-variants.{Event as 
 use Rattle.jobfile.proofs.Tests.{either}
 use Rattle.jobfile.specs.Coding.{eventOf, toldOf, decodeAt}
 use Rattle.jobfile.specs.Trailer.{wordAt}
-use Rattle.jobfile.specs.Tasks.{moved, stepOn, stepOf, taskFault, Leads}
+use Rattle.jobfile.specs.Tasks.{moved, recordFault, stepOn, stepOf, Leads}
 use Rattle.jobfile.specs.declared.tasks.Step.{Step}
 use Rattle.jobfile.specs.declared.tasks.Step.the-variants.{Go, Stop, NoEvent}
 
@@ -123,7 +123,7 @@ told-over w o n = rw (bare 1 (omega arith), bare 2 (omega arith), bare 3 (omega 
 -- reads and writes lead to the same
 pub told-access : (records n : ℕ) (tasks : List Bool) (kind number : ℕ) → (eqb kind 4 || eqb kind 5) ≡ true
     → (s : Step) → Leads s records tasks n (An (Read number)) → Leads s records tasks n (toldOf kind number)
-unfolding toldOf stepOn taskFault
+unfolding toldOf stepOn recordFault
 told-access records n tasks kind number t s h =
     ⊎-elim (λ p. rw (eqb-true kind 4 p) h) (λ q. rw (eqb-true kind 5 q) (written s h)) (either (eqb kind 4) (eqb kind 5) t)
   where

@@ -10,45 +10,43 @@ use Prim.Native.Nat.{ℕ, zero, suc, _+_, _-_, _≤_, _<_}
 use native.Mathlib.Omega.{arith}
 use native.Mathlib.Decide.{decLe}
 use Rattle.jobfile.specs.Trace.{depthAt, tasksAt}
-use Rattle.jobfile.specs.declared.event.Event.{Event}
-use Rattle.jobfile.specs.declared.event.Event.the-variants.{Spawn, End, Sync, Read, Write}
+use Rattle.jobfile.specs.declared.event.Move.{Move}
+use Rattle.jobfile.specs.declared.event.Move.the-variants.{Opens, Closes, Joins, Stays}
 use Rattle.relation.specs.Parallel.{By, Parallel, Rooted}
-use Rattle.relation.specs.Walk.{isSpawn, Move, moveOf, restack, headOr, moved, move, opened, spawned, moveAt, walk, par}
+use Rattle.relation.specs.Walk.{isSpawn, restack, headOr, moved, opened, spawned, moveAt, walk, par}
 use Rattle.relation.proofs.Depth.{bump, depth-at, last-or}
 use Rattle.relation.proofs.Walk.{from, walk-start, walk-step, par-step}
 
-is-spawn : (x : Event) → isSpawn x ≡ true → x ≡ Spawn
-is-spawn Spawn t = refl
-is-spawn End t = absurd (false≢true t)
-is-spawn Sync t = absurd (false≢true t)
-is-spawn (Read r) t = absurd (false≢true t)
-is-spawn (Write r) t = absurd (false≢true t)
+is-spawn : (x : Move) → isSpawn x ≡ true → x ≡ Opens
+is-spawn Opens t = refl
+is-spawn Closes t = absurd (false≢true t)
+is-spawn Joins t = absurd (false≢true t)
+is-spawn Stays t = absurd (false≢true t)
 
 -- an event that is no sync and no end
-abbrev Quiet : Event → Type 0
-Quiet Spawn = Unit {0}
-Quiet End = ⊥
-Quiet Sync = ⊥
-Quiet (Read r) = Unit {0}
-Quiet (Write r) = Unit {0}
+abbrev Quiet : Move → Type 0
+Quiet Opens = Unit {0}
+Quiet Closes = ⊥
+Quiet Joins = ⊥
+Quiet Stays = Unit {0}
 
-quiet-event : (x y : Event) → y ≡ x → Quiet x → (y ≢ Sync) × (y ≢ End)
+quiet-event : (x y : Move) → y ≡ x → Quiet x → (y ≢ Joins) × (y ≢ Closes)
 quiet-event x y e t = (λ z. subst Quiet (sym e ∙ z) t, λ z. subst Quiet (sym e ∙ z) t)
 
-module _ (ev : ℕ → Event) where
+module _ (mv : ℕ → Move) where
   -- event s opened a task that is open just before event n, and whose own events are at depth d
   record Opened (n d s : ℕ) : Type 0 where
     below : s < n
-    level : d ≡ suc (depthAt ev s)
-    over : (m : ℕ) → s < m → m ≤ n → depthAt ev s < depthAt ev m
+    level : d ≡ suc (depthAt mv s)
+    over : (m : ℕ) → s < m → m ≤ n → depthAt mv s < depthAt mv m
 
   abbrev AllOpened : ℕ → ℕ → List ℕ → Type 0
   AllOpened n d [] = d ≡ 1
-  AllOpened n d (s ∷ os) = Opened n d s × AllOpened n (depthAt ev s) os
+  AllOpened n d (s ∷ os) = Opened n d s × AllOpened n (depthAt mv s) os
 
-  all-keep : (n d : ℕ) (os : List ℕ) → d ≤ depthAt ev (suc n) → AllOpened n d os → AllOpened (suc n) d os
+  all-keep : (n d : ℕ) (os : List ℕ) → d ≤ depthAt mv (suc n) → AllOpened n d os → AllOpened (suc n) d os
   all-keep n d [] le o = o
-  all-keep n d (s ∷ os) le o = (first, all-keep n (depthAt ev s) os (omega arith) (o .1))
+  all-keep n d (s ∷ os) le o = (first, all-keep n (depthAt mv s) os (omega arith) (o .1))
     where
       first : Opened (suc n) d s
       first = record {
@@ -57,57 +55,56 @@ module _ (ev : ℕ → Event) where
         over = λ m sm mn. ⊎-elim (λ (l : m ≤ n). o .0 .over m sm l) (λ (e : m ≡ suc n). rw e (omega arith)) (last-or m n mn);
       }
 
-  all-push : (n : ℕ) (os : List ℕ) → depthAt ev (suc n) ≡ suc (depthAt ev n) → AllOpened n (depthAt ev n) os
-      → AllOpened (suc n) (suc (depthAt ev n)) (n ∷ os)
-  all-push n os d o = (first, all-keep n (depthAt ev n) os (omega arith) o)
+  all-push : (n : ℕ) (os : List ℕ) → depthAt mv (suc n) ≡ suc (depthAt mv n) → AllOpened n (depthAt mv n) os
+      → AllOpened (suc n) (suc (depthAt mv n)) (n ∷ os)
+  all-push n os d o = (first, all-keep n (depthAt mv n) os (omega arith) o)
     where
-      first : Opened (suc n) (suc (depthAt ev n)) n
+      first : Opened (suc n) (suc (depthAt mv n)) n
       first = record {
         below = omega arith;
         level = refl;
         over = λ m nm mn. let e : m ≡ suc n = omega arith in rw e (omega arith);
       }
 
-  all-pop : (n : ℕ) (os : List ℕ) → depthAt ev (suc n) ≡ depthAt ev n - 1 → 1 ≤ depthAt ev (suc n) → AllOpened n (depthAt ev n) os
-      → AllOpened (suc n) (depthAt ev n - 1) (restack End n os)
+  all-pop : (n : ℕ) (os : List ℕ) → depthAt mv (suc n) ≡ depthAt mv n - 1 → 1 ≤ depthAt mv (suc n) → AllOpened n (depthAt mv n) os
+      → AllOpened (suc n) (depthAt mv n - 1) (restack Closes n os)
   all-pop n [] d w o = omega arith
   all-pop n (s ∷ os) d w o =
-      let e : depthAt ev n - 1 ≡ depthAt ev s = omega (arith, o .0 .level) in
-      rw e (all-keep n (depthAt ev s) os (omega arith) (o .1))
+      let e : depthAt mv n - 1 ≡ depthAt mv s = omega (arith, o .0 .level) in
+      rw e (all-keep n (depthAt mv s) os (omega arith) (o .1))
 
-  all-next : (n : ℕ) (x : Event) (os : List ℕ) → ev n ≡ x → 1 ≤ depthAt ev (suc n) → AllOpened n (depthAt ev n) os
-      → AllOpened (suc n) (bump x (depthAt ev n)) (restack x n os)
-  all-next n Spawn os e w o = all-push n os (depth-at ev n Spawn e) o
-  all-next n End os e w o = all-pop n os (depth-at ev n End e) w o
-  all-next n Sync os e w o = all-keep n (depthAt ev n) os (omega (arith, depth-at ev n Sync e)) o
-  all-next n (Read r) os e w o = all-keep n (depthAt ev n) os (omega (arith, depth-at ev n (Read r) e)) o
-  all-next n (Write r) os e w o = all-keep n (depthAt ev n) os (omega (arith, depth-at ev n (Write r) e)) o
+  all-next : (n : ℕ) (x : Move) (os : List ℕ) → mv n ≡ x → 1 ≤ depthAt mv (suc n) → AllOpened n (depthAt mv n) os
+      → AllOpened (suc n) (bump x (depthAt mv n)) (restack x n os)
+  all-next n Opens os e w o = all-push n os (depth-at mv n Opens e) o
+  all-next n Closes os e w o = all-pop n os (depth-at mv n Closes e) w o
+  all-next n Joins os e w o = all-keep n (depthAt mv n) os (omega (arith, depth-at mv n Joins e)) o
+  all-next n Stays os e w o = all-keep n (depthAt mv n) os (omega (arith, depth-at mv n Stays e)) o
 
-  all-opened : (n : ℕ) → Rooted ev n → AllOpened n (depthAt ev n) (opened ev n)
+  all-opened : (n : ℕ) → Rooted mv n → AllOpened n (depthAt mv n) (opened mv n)
   unfolding opened tasksAt
   all-opened zero rooted = refl
   all-opened (suc n) rooted =
-      rw (depth-at ev n (ev n) refl)
-      (all-next n (ev n) (opened ev n) refl (rooted (suc n) (omega arith)) (all-opened n (λ m l. rooted m (omega arith))))
+      rw (depth-at mv n (mv n) refl)
+      (all-next n (mv n) (opened mv n) refl (rooted (suc n) (omega arith)) (all-opened n (λ m l. rooted m (omega arith))))
 
   -- where no event has opened a task that is still open, only the root is open
-  pub only-root : (n : ℕ) → Rooted ev n → opened ev n ≡ [] → depthAt ev n ≡ 1
+  pub only-root : (n : ℕ) → Rooted mv n → opened mv n ≡ [] → depthAt mv n ≡ 1
   only-root n rooted e = rw e at (all-opened n rooted)
 
   -- what holds of a walker from p at q: `level` is the depth of the innermost task that is still open and contained p, and `low` a
   -- position where that task was current
   record Walked (p q h : ℕ) (b : Bool) : Type 0 where
     level : ℕ
-    under : level + h ≡ depthAt ev q
-    above : (m : ℕ) → p ≤ m → m ≤ q → level ≤ depthAt ev m
+    under : level + h ≡ depthAt mv q
+    above : (m : ℕ) → p ≤ m → m ≤ q → level ≤ depthAt mv m
     low : ℕ
     p≤low : p ≤ low
     low≤q : low ≤ q
-    at-low : depthAt ev low ≡ level
-    sound : b ≡ true → (s : ℕ) × (e : ℕ) × By ev p q s e × (depthAt ev s ≡ level)
+    at-low : depthAt mv low ≡ level
+    sound : b ≡ true → (s : ℕ) × (e : ℕ) × By mv p q s e × (depthAt mv s ≡ level)
 
   -- a task goes on to make p parallel over an event that is no sync and no end of its parent
-  by-keep : (p q s e : ℕ) → By ev p q s e → (depthAt ev q ≡ depthAt ev s → (ev q ≢ Sync) × (ev q ≢ End)) → By ev p (suc q) s e
+  by-keep : (p q s e : ℕ) → By mv p q s e → (depthAt mv q ≡ depthAt mv s → (mv q ≢ Joins) × (mv q ≢ Closes)) → By mv p (suc q) s e
   by-keep p q s e B f = record {
     s<p = B .s<p;
     p≤e = B .p≤e;
@@ -122,8 +119,8 @@ module _ (ev : ℕ → Event) where
   }
 
   -- any event but a sync or an end at height 0
-  walked-keep : (p q h h′ : ℕ) (b : Bool) → p ≤ q → (w : Walked p q h b) → w .level + h′ ≡ depthAt ev (suc q)
-      → (depthAt ev q ≡ w .level → (ev q ≢ Sync) × (ev q ≢ End)) → Walked p (suc q) h′ b
+  walked-keep : (p q h h′ : ℕ) (b : Bool) → p ≤ q → (w : Walked p q h b) → w .level + h′ ≡ depthAt mv (suc q)
+      → (depthAt mv q ≡ w .level → (mv q ≢ Joins) × (mv q ≢ Closes)) → Walked p (suc q) h′ b
   walked-keep p q h h′ b pq w d f = record {
     level = w .level;
     under = d;
@@ -136,7 +133,7 @@ module _ (ev : ℕ → Event) where
   }
 
   -- a sync at height 0
-  walked-sync : (p q : ℕ) (b : Bool) → p ≤ q → (w : Walked p q 0 b) → depthAt ev (suc q) ≡ depthAt ev q → Walked p (suc q) 0 false
+  walked-sync : (p q : ℕ) (b : Bool) → p ≤ q → (w : Walked p q 0 b) → depthAt mv (suc q) ≡ depthAt mv q → Walked p (suc q) 0 false
   walked-sync p q b pq w d = record {
     level = w .level;
     under = w .under ∙ sym d;
@@ -149,10 +146,10 @@ module _ (ev : ℕ → Event) where
   }
 
   -- an end at height 0, of the task that event s opened
-  walked-end : (p q s : ℕ) (b : Bool) → p ≤ q → (w : Walked p q 0 b) → ev q ≡ End → depthAt ev (suc q) ≡ depthAt ev q - 1
-      → Opened q (depthAt ev q) s → Walked p (suc q) 0 (isSpawn (ev s))
+  walked-end : (p q s : ℕ) (b : Bool) → p ≤ q → (w : Walked p q 0 b) → mv q ≡ Closes → depthAt mv (suc q) ≡ depthAt mv q - 1
+      → Opened q (depthAt mv q) s → Walked p (suc q) 0 (isSpawn (mv s))
   walked-end p q s b pq w x d o = record {
-    level = depthAt ev (suc q);
+    level = depthAt mv (suc q);
     under = omega arith;
     above = λ m pm mq. ⊎-elim (λ (l : m ≤ q). omega (arith, w .above m pm l)) (λ (e : m ≡ suc q). rw e (omega arith)) (last-or m q mq);
     low = suc q;
@@ -166,42 +163,40 @@ module _ (ev : ℕ → Event) where
       early (yes ps) = absurd (omega (arith, w .above s ps (omega arith)))
       early (no ps) = omega arith
 
-      by : isSpawn (ev s) ≡ true → By ev p (suc q) s q
+      by : isSpawn (mv s) ≡ true → By mv p (suc q) s q
       by t = record {
         s<p = early (decLe p s);
         p≤e = pq;
         e<q = omega arith;
-        at-s = is-spawn (ev s) t;
+        at-s = is-spawn (mv s) t;
         at-e = x;
         level = o .level;
         inside = λ m sm mq. o .over m sm (omega arith);
         quiet = λ m em mq z. absurd (omega arith);
       }
 
-  -- the move of an event, by the events that opened the open tasks
-  abbrev moveBy : Event → List ℕ → Move
-  moveBy x os = moveOf x (isSpawn (ev (headOr os 0)))
+  -- whether the current task was spawned, by the events that opened the open tasks
+  abbrev spawnedBy : List ℕ → Bool
+  spawnedBy os = isSpawn (mv (headOr os 0))
 
-  walked-step : (p q h : ℕ) (b : Bool) (x : Event) (os : List ℕ) → ev q ≡ x → p ≤ q → 1 ≤ depthAt ev (suc q)
-      → AllOpened q (depthAt ev q) os → Walked p q h b
-      → Walked p (suc q) (moved (moveBy x os) h b .height) (moved (moveBy x os) h b .par)
-  walked-step p q h b Spawn os e pq r o w =
-      walked-keep p q h (suc h) b pq w (omega (arith, depth-at ev q Spawn e, w .under)) (λ z. quiet-event Spawn (ev q) e tt)
-  walked-step p q zero b End [] e pq r o w = absurd (omega (arith, depth-at ev q End e, o))
-  walked-step p q zero b End (s ∷ os) e pq r o w = walked-end p q s b pq w e (depth-at ev q End e) (o .0)
-  walked-step p q (suc h) b End os e pq r o w =
-      walked-keep p q (suc h) h b pq w (omega (arith, depth-at ev q End e, w .under)) (λ z. absurd (omega arith))
-  walked-step p q zero b Sync os e pq r o w = walked-sync p q b pq w (depth-at ev q Sync e)
-  walked-step p q (suc h) b Sync os e pq r o w =
-      walked-keep p q (suc h) (suc h) b pq w (omega (arith, depth-at ev q Sync e)) (λ z. absurd (omega arith))
-  walked-step p q h b (Read k) os e pq r o w =
-      walked-keep p q h h b pq w (omega (arith, depth-at ev q (Read k) e)) (λ z. quiet-event (Read k) (ev q) e tt)
-  walked-step p q h b (Write k) os e pq r o w =
-      walked-keep p q h h b pq w (omega (arith, depth-at ev q (Write k) e)) (λ z. quiet-event (Write k) (ev q) e tt)
+  walked-step : (p q h : ℕ) (b : Bool) (x : Move) (os : List ℕ) → mv q ≡ x → p ≤ q → 1 ≤ depthAt mv (suc q)
+      → AllOpened q (depthAt mv q) os → Walked p q h b
+      → Walked p (suc q) (moved x (spawnedBy os) h b .height) (moved x (spawnedBy os) h b .par)
+  walked-step p q h b Opens os e pq r o w =
+      walked-keep p q h (suc h) b pq w (omega (arith, depth-at mv q Opens e, w .under)) (λ z. quiet-event Opens (mv q) e tt)
+  walked-step p q zero b Closes [] e pq r o w = absurd (omega (arith, depth-at mv q Closes e, o))
+  walked-step p q zero b Closes (s ∷ os) e pq r o w = walked-end p q s b pq w e (depth-at mv q Closes e) (o .0)
+  walked-step p q (suc h) b Closes os e pq r o w =
+      walked-keep p q (suc h) h b pq w (omega (arith, depth-at mv q Closes e, w .under)) (λ z. absurd (omega arith))
+  walked-step p q zero b Joins os e pq r o w = walked-sync p q b pq w (depth-at mv q Joins e)
+  walked-step p q (suc h) b Joins os e pq r o w =
+      walked-keep p q (suc h) (suc h) b pq w (omega (arith, depth-at mv q Joins e)) (λ z. absurd (omega arith))
+  walked-step p q h b Stays os e pq r o w =
+      walked-keep p q h h b pq w (omega (arith, depth-at mv q Stays e)) (λ z. quiet-event Stays (mv q) e tt)
 
   walked-start : (p : ℕ) → Walked p p 0 false
   walked-start p = record {
-    level = depthAt ev p;
+    level = depthAt mv p;
     under = omega arith;
     above = λ m pm mp. let e : m ≡ p = omega arith in rw e (omega arith);
     low = p;
@@ -211,26 +206,26 @@ module _ (ev : ℕ → Event) where
     sound = λ t. absurd (false≢true t);
   }
 
-  walked : (p q : ℕ) → p ≤ q → Rooted ev q → Walked p q (walk ev p q .height) (walk ev p q .par)
+  walked : (p q : ℕ) → p ≤ q → Rooted mv q → Walked p q (walk mv p q .height) (walk mv p q .par)
   unfolding moveAt
   walked p q pq rooted =
-      from (λ (n : ℕ). Rooted ev n → Walked p n (walk ev p n .height) (walk ev p n .par)) p
+      from (λ (n : ℕ). Rooted mv n → Walked p n (walk mv p n .height) (walk mv p n .par)) p
       (λ z. rw walk-start (walked-start p))
-      (λ n pn ih z. rw (walk-step ev p n pn) (next n pn z (ih (λ m l. z m (omega arith)))))
+      (λ n pn ih z. rw (walk-step mv p n pn) (next n pn z (ih (λ m l. z m (omega arith)))))
       q pq rooted
     where
-      next : (n : ℕ) → p ≤ n → Rooted ev (suc n) → Walked p n (walk ev p n .height) (walk ev p n .par)
-          → Walked p (suc n) (move (moveAt ev n) (walk ev p n) .height) (move (moveAt ev n) (walk ev p n) .par)
+      next : (n : ℕ) → p ≤ n → Rooted mv (suc n) → Walked p n (walk mv p n .height) (walk mv p n .par)
+          → Walked p (suc n) (moveAt mv n (walk mv p n) .height) (moveAt mv n (walk mv p n) .par)
       next n pn z w =
-          walked-step p n (walk ev p n .height) (walk ev p n .par) (ev n) (opened ev n) refl pn (z (suc n) (omega arith))
+          walked-step p n (walk mv p n .height) (walk mv p n .par) (mv n) (opened mv n) refl pn (z (suc n) (omega arith))
           (all-opened n (λ m l. z m (omega arith))) w
 
   -- from the walk to the definition
-  pub walk-sound : (p q : ℕ) → p ≤ q → Rooted ev q → par ev p q ≡ true → Parallel ev p q
+  pub walk-sound : (p q : ℕ) → p ≤ q → Rooted mv q → par mv p q ≡ true → Parallel mv p q
   walk-sound p q pq rooted t = let P = (walked p q pq rooted) .sound t in (P .0, P .1, P .2)
 
   -- the event that opened the task that e closes
-  opener : (p q s e : ℕ) → Rooted ev q → By ev p q s e → (os : List ℕ) → AllOpened e (depthAt ev e) os → headOr os 0 ≡ s
+  opener : (p q s e : ℕ) → Rooted mv q → By mv p q s e → (os : List ℕ) → AllOpened e (depthAt mv e) os → headOr os 0 ≡ s
   opener p q s e rooted B [] o = absurd (omega (arith, o, B .level, rooted s (omega arith)))
   opener p q s e rooted B (s′ ∷ os) o = go (decLe (suc s) s′) (decLe (suc s′) s)
     where
@@ -240,61 +235,60 @@ module _ (ev : ℕ → Event) where
       go (no l) (no k) = omega arith
 
   -- at the end of the task the walker says parallel
-  by-end : (p q s e : ℕ) → Rooted ev q → By ev p q s e → par ev p (suc e) ≡ true
+  by-end : (p q s e : ℕ) → Rooted mv q → By mv p q s e → par mv p (suc e) ≡ true
   unfolding moveAt
-  by-end p q s e rooted B = par-step ev p e (B .p≤e) ∙ go (walk ev p e .height) (walk ev p e .par) (low (decLe (suc (w .low)) e))
+  by-end p q s e rooted B = par-step mv p e (B .p≤e) ∙ go (walk mv p e .height) (walk mv p e .par) (low (decLe (suc (w .low)) e))
     where
-      w : Walked p e (walk ev p e .height) (walk ev p e .par)
+      w : Walked p e (walk mv p e .height) (walk mv p e .par)
       w = walked p e (B .p≤e) (λ m l. rooted m (omega (arith, B .e<q)))
 
-      low : Dec (w .low < e) → walk ev p e .height ≡ 0
+      low : Dec (w .low < e) → walk mv p e .height ≡ 0
       low (yes l) = omega (arith, B .inside (w .low) (omega (arith, B .s<p, w .p≤low)) l, w .at-low, w .under, B .level)
       low (no l) = let z : w .low ≡ e = omega (arith, w .low≤q) in omega (arith, rw z at (w .at-low), w .under)
 
-      head : headOr (opened ev e) 0 ≡ s
-      head = opener p q s e rooted B (opened ev e) (all-opened e (λ m l. rooted m (omega (arith, B .e<q))))
+      head : headOr (opened mv e) 0 ≡ s
+      head = opener p q s e rooted B (opened mv e) (all-opened e (λ m l. rooted m (omega (arith, B .e<q))))
 
-      go : (h : ℕ) (b : Bool) → h ≡ 0 → moved (moveAt ev e) h b .par ≡ true
+      go : (h : ℕ) (b : Bool) → h ≡ 0 → moved (mv e) (spawned mv e) h b .par ≡ true
       go h b z = rw (z, B .at-e, head, B .at-s)
 
   -- one event later it still does
-  by-step : (s n h : ℕ) (b : Bool) (x : Event) (k : Bool) → ev n ≡ x → b ≡ true → depthAt ev s ≤ depthAt ev n
-      → (h ≡ 0 → depthAt ev n ≡ depthAt ev s) → (depthAt ev n ≡ depthAt ev s → (ev n ≢ Sync) × (ev n ≢ End))
-      → (moved (moveOf x k) h b .par ≡ true) × (depthAt ev s ≤ depthAt ev (suc n))
-  by-step s n h b Spawn k e t d z f = (t, omega (arith, depth-at ev n Spawn e))
-  by-step s n zero b End k e t d z f = absurd (f (z refl) .1 e)
-  by-step s n (suc h) b End k e t d z f = (t, go (decLe (suc (depthAt ev s)) (depthAt ev n)))
+  by-step : (s n h : ℕ) (b : Bool) (x : Move) (k : Bool) → mv n ≡ x → b ≡ true → depthAt mv s ≤ depthAt mv n
+      → (h ≡ 0 → depthAt mv n ≡ depthAt mv s) → (depthAt mv n ≡ depthAt mv s → (mv n ≢ Joins) × (mv n ≢ Closes))
+      → (moved x k h b .par ≡ true) × (depthAt mv s ≤ depthAt mv (suc n))
+  by-step s n h b Opens k e t d z f = (t, omega (arith, depth-at mv n Opens e))
+  by-step s n zero b Closes k e t d z f = absurd (f (z refl) .1 e)
+  by-step s n (suc h) b Closes k e t d z f = (t, go (decLe (suc (depthAt mv s)) (depthAt mv n)))
     where
-      go : Dec (depthAt ev s < depthAt ev n) → depthAt ev s ≤ depthAt ev (suc n)
-      go (yes l) = omega (arith, depth-at ev n End e)
+      go : Dec (depthAt mv s < depthAt mv n) → depthAt mv s ≤ depthAt mv (suc n)
+      go (yes l) = omega (arith, depth-at mv n Closes e)
       go (no l) = absurd (f (omega arith) .1 e)
-  by-step s n zero b Sync k e t d z f = absurd (f (z refl) .0 e)
-  by-step s n (suc h) b Sync k e t d z f = (t, omega (arith, depth-at ev n Sync e))
-  by-step s n h b (Read r) k e t d z f = (t, omega (arith, depth-at ev n (Read r) e))
-  by-step s n h b (Write r) k e t d z f = (t, omega (arith, depth-at ev n (Write r) e))
+  by-step s n zero b Joins k e t d z f = absurd (f (z refl) .0 e)
+  by-step s n (suc h) b Joins k e t d z f = (t, omega (arith, depth-at mv n Joins e))
+  by-step s n h b Stays k e t d z f = (t, omega (arith, depth-at mv n Stays e))
 
-  by-later : (p q s e : ℕ) → Rooted ev q → By ev p q s e → (n : ℕ) → suc e ≤ n → n ≤ q
-      → (par ev p n ≡ true) × (depthAt ev s ≤ depthAt ev n)
+  by-later : (p q s e : ℕ) → Rooted mv q → By mv p q s e → (n : ℕ) → suc e ≤ n → n ≤ q
+      → (par mv p n ≡ true) × (depthAt mv s ≤ depthAt mv n)
   unfolding moveAt
   by-later p q s e rooted B =
-      from (λ (n : ℕ). n ≤ q → (par ev p n ≡ true) × (depthAt ev s ≤ depthAt ev n)) (suc e)
-      (λ l. (by-end p q s e rooted B, omega (arith, depth-at ev e End (B .at-e), B .level)))
+      from (λ (n : ℕ). n ≤ q → (par mv p n ≡ true) × (depthAt mv s ≤ depthAt mv n)) (suc e)
+      (λ l. (by-end p q s e rooted B, omega (arith, depth-at mv e Closes (B .at-e), B .level)))
       (λ n en ih nq. next n en nq (ih (omega arith)))
     where
-      next : (n : ℕ) → e < n → n < q → (par ev p n ≡ true) × (depthAt ev s ≤ depthAt ev n)
-          → (par ev p (suc n) ≡ true) × (depthAt ev s ≤ depthAt ev (suc n))
+      next : (n : ℕ) → e < n → n < q → (par mv p n ≡ true) × (depthAt mv s ≤ depthAt mv n)
+          → (par mv p (suc n) ≡ true) × (depthAt mv s ≤ depthAt mv (suc n))
       next n en nq ih =
           let pn : p ≤ n = omega (arith, B .p≤e) in
           let w = walked p n pn (λ m l. rooted m (omega arith)) in
-          let r = by-step s n (walk ev p n .height) (walk ev p n .par) (ev n) (spawned ev n) refl (ih .0) (ih .1)
-          (λ z. omega (arith, w .above (suc e) (omega (arith, B .p≤e)) en, w .under, ih .1, depth-at ev e End (B .at-e), B .level))
+          let r = by-step s n (walk mv p n .height) (walk mv p n .par) (mv n) (spawned mv n) refl (ih .0) (ih .1)
+          (λ z. omega (arith, w .above (suc e) (omega (arith, B .p≤e)) en, w .under, ih .1, depth-at mv e Closes (B .at-e), B .level))
           (λ z. B .quiet n en nq z) in
-          (par-step ev p n pn ∙ r .0, r .1)
+          (par-step mv p n pn ∙ r .0, r .1)
 
   -- from the definition to the walk
-  pub walk-complete : (p q : ℕ) → Rooted ev q → Parallel ev p q → par ev p q ≡ true
+  pub walk-complete : (p q : ℕ) → Rooted mv q → Parallel mv p q → par mv p q ≡ true
   walk-complete p q rooted P = (by-later p q (P .0) (P .1) rooted (P .2) q (P .2 .e<q) (omega arith)) .0
 
   -- the walk decides the definition
-  pub walk-is : (p q : ℕ) → p ≤ q → Rooted ev q → Parallel ev p q ↔ (par ev p q ≡ true)
+  pub walk-is : (p q : ℕ) → p ≤ q → Rooted mv q → Parallel mv p q ↔ (par mv p q ≡ true)
   walk-is p q pq rooted = (walk-complete p q rooted, walk-sound p q pq rooted)

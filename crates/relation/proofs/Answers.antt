@@ -9,7 +9,11 @@ use borrow.Author.Tests.{eq-eqb, ne-eqb, lt-ltb, le-ltb, ltb-true}
 use Rattle.jobfile.specs.Refusals.{refusalOf}
 use Rattle.jobfile.specs.declared.event.Event.{Event}
 use Rattle.relation.specs.Between.{Walkable}
-use Rattle.relation.specs.Question.{isAccess, compareOf, askedOf}
+use Rattle.jobfile.specs.declared.event.Move.{Move}
+use Rattle.jobfile.specs.declared.event.Access.{Access}
+use Rattle.jobfile.specs.Events.{accessOf}
+use Rattle.jobfile.specs.Trace.{moves}
+use Rattle.relation.specs.Question.{isAccess, accessAt, compareOf, askedOf}
 use Rattle.relation.specs.Walk.{par}
 use Rattle.relation.specs.declared.Answer.the-variants.{Same, Before, After, Parallel, Refused}
 
@@ -22,29 +26,30 @@ walkable-between part count p q w pq qc = record {
   rooted = λ m l. w .rooted m (omega arith);
 }
 
-module _ (ev : ℕ → Event) (i j : ℕ) where
-  pub compare-same : i ≡ j → compareOf ev i j ≡ Same
+module _ (mv : ℕ → Move) (i j : ℕ) where
+  pub compare-same : i ≡ j → compareOf mv i j ≡ Same
   unfolding compareOf
   compare-same e = rw (eq-eqb i j e)
 
-  pub compare-parallel : i < j → par ev i j ≡ true → compareOf ev i j ≡ Parallel
+  pub compare-parallel : i < j → par mv i j ≡ true → compareOf mv i j ≡ Parallel
   unfolding compareOf
   compare-parallel l t = rw (ne-eqb i j (λ e. omega arith), lt-ltb i j l, t)
 
-  pub compare-before : i < j → par ev i j ≡ false → compareOf ev i j ≡ Before
+  pub compare-before : i < j → par mv i j ≡ false → compareOf mv i j ≡ Before
   unfolding compareOf
   compare-before l f = rw (ne-eqb i j (λ e. omega arith), lt-ltb i j l, f)
 
-  pub compare-parallel-back : j < i → par ev j i ≡ true → compareOf ev i j ≡ Parallel
+  pub compare-parallel-back : j < i → par mv j i ≡ true → compareOf mv i j ≡ Parallel
   unfolding compareOf
   compare-parallel-back l t = rw (ne-eqb i j (λ e. omega arith), le-ltb i j (omega arith), t)
 
-  pub compare-after : j < i → par ev j i ≡ false → compareOf ev i j ≡ After
+  pub compare-after : j < i → par mv j i ≡ false → compareOf mv i j ≡ After
   unfolding compareOf
   compare-after l f = rw (ne-eqb i j (λ e. omega arith), le-ltb i j (omega arith), f)
 
-pub access-below : (count n : ℕ) (x e : Event) (r : Bool) → n < count → x ≡ e → r ≡ isAccess x → r ≡ (ltb n count && isAccess e)
-access-below count n x e r l at f = rw (lt-ltb n count l) (f ∙ ap isAccess at)
+pub access-below : (count n : ℕ) (x e : Event) (a : Access) (r : Bool) → n < count → x ≡ e → a ≡ accessOf x → r ≡ isAccess a
+    → r ≡ (ltb n count && isAccess (accessOf e))
+access-below count n x e a r l at of f = rw (lt-ltb n count l) (f ∙ ap isAccess (of ∙ ap accessOf at))
 
 -- a test of two tests that are told
 pub both-told : {a a′ b b′ r v : Bool} → a ≡ a′ → b ≡ b′ → r ≡ (a && b) → r ≡ v → (a′ && b′) ≡ v
@@ -66,19 +71,19 @@ module _ (ev : ℕ → Event) (count i j : ℕ) where
 
   -- where both numbers are below the count, so that the code's tests of both events are those of the definition
   module _ (below : (ltb i count && ltb j count) ≡ true) where
-    both-tested : ((ltb i count && isAccess (ev i)) && (ltb j count && isAccess (ev j))) ≡ (isAccess (ev i) && isAccess (ev j))
+    both-tested : ((ltb i count && accessAt ev i) && (ltb j count && accessAt ev j)) ≡ (accessAt ev i && accessAt ev j)
     both-tested = let b = and-both (ltb i count) (ltb j count) below in rw (b .0, b .1)
 
-    pub asked-no-access : ((ltb i count && isAccess (ev i)) && (ltb j count && isAccess (ev j))) ≡ false
+    pub asked-no-access : ((ltb i count && accessAt ev i) && (ltb j count && accessAt ev j)) ≡ false
         → askedOf ev count i j ≡ Refused (refusalOf 18 0)
     unfolding askedOf
     asked-no-access e = rw (below, sym both-tested ∙ e)
 
-    pub asked-accesses : ((ltb i count && isAccess (ev i)) && (ltb j count && isAccess (ev j))) ≡ true
-        → askedOf ev count i j ≡ compareOf ev i j
+    pub asked-accesses : ((ltb i count && accessAt ev i) && (ltb j count && accessAt ev j)) ≡ true
+        → askedOf ev count i j ≡ compareOf (moves ev) i j
     unfolding askedOf
     asked-accesses e = rw (below, sym both-tested ∙ e)
 
-  pub two-accesses : i < count → j < count → isAccess (ev i) ≡ true → isAccess (ev j) ≡ true → askedOf ev count i j ≡ compareOf ev i j
+  pub two-accesses : i < count → j < count → accessAt ev i ≡ true → accessAt ev j ≡ true → askedOf ev count i j ≡ compareOf (moves ev) i j
   unfolding askedOf
   two-accesses l k a b = rw (lt-ltb i count l, lt-ltb j count k, a, b)

@@ -8,30 +8,28 @@ use native.Mathlib.Omega.{arith}
 use native.Mathlib.Decide.{decLe}
 use lib.ListN.{length}
 use Rattle.jobfile.specs.Trace.{tasksNext, tasksAt, depthAt}
-use Rattle.jobfile.specs.declared.event.Event.{Event}
-use Rattle.jobfile.specs.declared.event.Event.the-variants.{Spawn, End, Sync, Read, Write}
+use Rattle.jobfile.specs.declared.event.Move.{Move}
+use Rattle.jobfile.specs.declared.event.Move.the-variants.{Opens, Closes, Joins, Stays}
 
 -- the number after an event
-abbrev pub bump : Event → ℕ → ℕ
-bump Spawn d = suc d
-bump End d = d - 1
-bump Sync d = d
-bump (Read r) d = d
-bump (Write r) d = d
+abbrev pub bump : Move → ℕ → ℕ
+bump Opens d = suc d
+bump Closes d = d - 1
+bump Joins d = d
+bump Stays d = d
 
-pub depth-next : (x : Event) (tasks : List Bool) → length (tasksNext x tasks) ≡ bump x (length tasks)
-depth-next Spawn [] = refl
-depth-next Spawn (w ∷ tasks) = refl
-depth-next End [] = refl
-depth-next End (w ∷ tasks) = omega arith
-depth-next Sync [] = refl
-depth-next Sync (w ∷ tasks) = refl
-depth-next (Read r) tasks = refl
-depth-next (Write r) tasks = refl
+pub depth-next : (x : Move) (tasks : List Bool) → length (tasksNext x tasks) ≡ bump x (length tasks)
+depth-next Opens [] = refl
+depth-next Opens (w ∷ tasks) = refl
+depth-next Closes [] = refl
+depth-next Closes (w ∷ tasks) = omega arith
+depth-next Joins [] = refl
+depth-next Joins (w ∷ tasks) = refl
+depth-next Stays tasks = refl
 
-pub depth-at : (ev : ℕ → Event) (n : ℕ) (x : Event) → ev n ≡ x → depthAt ev (suc n) ≡ bump x (depthAt ev n)
+pub depth-at : (mv : ℕ → Move) (n : ℕ) (x : Move) → mv n ≡ x → depthAt mv (suc n) ≡ bump x (depthAt mv n)
 unfolding tasksAt
-depth-at ev n x e = rw e (depth-next x (tasksAt ev n))
+depth-at mv n x e = rw e (depth-next x (tasksAt mv n))
 
 -- the last of a range, or one before it
 pub last-or : (m n : ℕ) → m ≤ suc n → (m ≤ n) ⊎ (m ≡ suc n)

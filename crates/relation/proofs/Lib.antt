@@ -3,7 +3,6 @@ pub mod Depth
 pub mod Agree
 pub mod Strand
 pub mod Laws
-pub mod Prefix
 pub mod Spawned
 pub mod Moves
 pub mod Answers

@@ -5,8 +5,9 @@ use mathlib.Core.Bool.{Bool}
 use Prim.Native.Nat.{ℕ, zero, suc, _+_, _-_, _≤_}
 use native.Mathlib.Omega.{arith}
 use native.Mathlib.Nat.{not-suc-le-zero, add-zero, add-suc}
-use Rattle.jobfile.specs.declared.event.Event.{Event}
-use Rattle.relation.specs.Walk.{Move, up, down, join, stay, Walker, moved, move, start, moveAt, walkFor, walk, par}
+use Rattle.jobfile.specs.declared.event.Move.{Move}
+use Rattle.jobfile.specs.declared.event.Move.the-variants.{Opens, Closes, Joins, Stays}
+use Rattle.relation.specs.Walk.{Walker, moved, move, start, spawned, moveAt, walkFor, walk, par}
 
 -- either the outer walker still has the answer c and stands at least as high, or the two have merged
 abbrev Inv : Bool → Walker → Walker → Type 0
@@ -16,21 +17,21 @@ inv-end : (c : Bool) (x y : Walker) → Inv c x y → y .par ≡ c → x .par �
 inv-end c x y (inl g) e = g .1
 inv-end c x y (inr m) e = ap (λ (s : Walker). s .par) m ∙ e
 
-inv-step : (c : Bool) (a : Move) (hi : ℕ) (pi : Bool) (hj : ℕ) (pj : Bool) → hj ≤ hi → pi ≡ c → Inv c (moved a hi pi) (moved a hj pj)
-inv-step c up hi pi hj pj g e = inl (omega arith, e)
-inv-step c (down b) zero pi zero pj g e = inr refl
-inv-step c (down b) zero pi (suc hj) pj g e = absurd (not-suc-le-zero g)
-inv-step c (down b) (suc hi) pi zero pj g e = inl (omega arith, e)
-inv-step c (down b) (suc hi) pi (suc hj) pj g e = inl (omega arith, e)
-inv-step c join zero pi zero pj g e = inr refl
-inv-step c join zero pi (suc hj) pj g e = absurd (not-suc-le-zero g)
-inv-step c join (suc hi) pi zero pj g e = inl (omega arith, e)
-inv-step c join (suc hi) pi (suc hj) pj g e = inl (omega arith, e)
-inv-step c stay hi pi hj pj g e = inl (g, e)
+inv-step : (c : Bool) (m : Move) (b : Bool) (hi : ℕ) (pi : Bool) (hj : ℕ) (pj : Bool) → hj ≤ hi → pi ≡ c → Inv c (moved m b hi pi) (moved m b hj pj)
+inv-step c Opens b hi pi hj pj g e = inl (omega arith, e)
+inv-step c Closes b zero pi zero pj g e = inr refl
+inv-step c Closes b zero pi (suc hj) pj g e = absurd (not-suc-le-zero g)
+inv-step c Closes b (suc hi) pi zero pj g e = inl (omega arith, e)
+inv-step c Closes b (suc hi) pi (suc hj) pj g e = inl (omega arith, e)
+inv-step c Joins b zero pi zero pj g e = inr refl
+inv-step c Joins b zero pi (suc hj) pj g e = absurd (not-suc-le-zero g)
+inv-step c Joins b (suc hi) pi zero pj g e = inl (omega arith, e)
+inv-step c Joins b (suc hi) pi (suc hj) pj g e = inl (omega arith, e)
+inv-step c Stays b hi pi hj pj g e = inl (g, e)
 
-inv-next : (c : Bool) (a : Move) (x y : Walker) → Inv c x y → Inv c (move a x) (move a y)
-inv-next c a x y (inl g) = inv-step c a (x .height) (x .par) (y .height) (y .par) (g .0) (g .1)
-inv-next c a x y (inr m) = inr (ap (move a) m)
+inv-next : (c : Bool) (m : Move) (b : Bool) (x y : Walker) → Inv c x y → Inv c (move m b x) (move m b y)
+inv-next c m b x y (inl g) = inv-step c m b (x .height) (x .par) (y .height) (y .par) (g .0) (g .1)
+inv-next c m b x y (inr e) = inr (ap (move m b) e)
 
 -- induction from j upwards
 pub from : (P : ℕ → Type 0) (j : ℕ) → P j → ((n : ℕ) → j ≤ n → P n → P (suc n)) → (k : ℕ) → j ≤ k → P k
@@ -43,26 +44,27 @@ from P j base next k le = rw (← fits) (go (k - j))
     go zero = rw add-zero base
     go (suc n) = rw add-suc (next (j + n) (omega arith) (go n))
 
-module _ (ev : ℕ → Event) where
-  pub walk-start : (p : ℕ) → walk ev p p ≡ start
+module _ (mv : ℕ → Move) where
+  pub walk-start : (p : ℕ) → walk mv p p ≡ start
   unfolding walk walkFor
   walk-start p = let z : p - p ≡ 0 = omega arith in rw z
 
-  pub walk-step : (p q : ℕ) → p ≤ q → walk ev p (suc q) ≡ move (moveAt ev q) (walk ev p q)
+  pub walk-step : (p q : ℕ) → p ≤ q → walk mv p (suc q) ≡ moveAt mv q (walk mv p q)
   unfolding walk walkFor
   walk-step p q le =
       let z : suc q - p ≡ suc (q - p) = omega arith in
       let y : p + (q - p) ≡ q = omega arith in
       rw (z, y)
 
-  pub par-step : (p q : ℕ) → p ≤ q → par ev p (suc q) ≡ move (moveAt ev q) (walk ev p q) .par
+  pub par-step : (p q : ℕ) → p ≤ q → par mv p (suc q) ≡ moveAt mv q (walk mv p q) .par
   par-step p q le = ap (λ (s : Walker). s .par) (walk-step p q le)
 
-  side-by-side : (c : Bool) (i j : ℕ) → i ≤ j → par ev i j ≡ c → (k : ℕ) → j ≤ k → Inv c (walk ev i k) (walk ev j k)
-  side-by-side c i j ij e = from (λ (k : ℕ). Inv c (walk ev i k) (walk ev j k)) j
+  side-by-side : (c : Bool) (i j : ℕ) → i ≤ j → par mv i j ≡ c → (k : ℕ) → j ≤ k → Inv c (walk mv i k) (walk mv j k)
+  unfolding moveAt
+  side-by-side c i j ij e = from (λ (k : ℕ). Inv c (walk mv i k) (walk mv j k)) j
       (rw walk-start (inl (omega arith, e)))
-      (λ n jn ih. rw (walk-step i n (omega arith), walk-step j n jn) (inv-next c (moveAt ev n) (walk ev i n) (walk ev j n) ih))
+      (λ n jn ih. rw (walk-step i n (omega arith), walk-step j n jn) (inv-next c (mv n) (spawned mv n) (walk mv i n) (walk mv j n) ih))
 
   -- with c = false before is transitive, with c = true parallel is
-  pub par-trans : (c : Bool) (i j k : ℕ) → i ≤ j → j ≤ k → par ev i j ≡ c → par ev j k ≡ c → par ev i k ≡ c
-  par-trans c i j k ij jk e f = inv-end c (walk ev i k) (walk ev j k) (side-by-side c i j ij e k jk) f
+  pub par-trans : (c : Bool) (i j k : ℕ) → i ≤ j → j ≤ k → par mv i j ≡ c → par mv j k ≡ c → par mv i k ≡ c
+  par-trans c i j k ij jk e f = inv-end c (walk mv i k) (walk mv j k) (side-by-side c i j ij e k jk) f

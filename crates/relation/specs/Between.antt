@@ -2,7 +2,7 @@
 use Prim.Native.Nat.{ℕ, _*_, _≤_}
 use mathlib.Core.List.{List}
 use lib.ListN.{length}
-use Rattle.jobfile.specs.Trace.{eventAt}
+use Rattle.jobfile.specs.Trace.{eventAt, moves}
 use Rattle.relation.specs.Parallel.{Rooted}
 use Rattle.relation.specs.Walk.{Walker}
 use Rattle.relation.specs.declared.between.Walker.{Walker as State}
@@ -15,4 +15,4 @@ pub record Walkable (part : List ℕ) (p q : ℕ) : Type 0 where
   pub order : p ≤ q
   pub room : 4 * q ≤ length part
   pub few : q ≤ 1000000
-  pub rooted : Rooted (eventAt part) q
+  pub rooted : Rooted (moves (eventAt part)) q

@@ -7,12 +7,15 @@ use Prim.Native.Nat.{ℕ, _<_}
 use lib.Dec.{eqb, ltb}
 use Rattle.jobfile.specs.File.{checkOf, eventsFrom}
 use Rattle.jobfile.specs.Refusals.{refusalOf}
-use Rattle.jobfile.specs.Trace.{eventAt}
+use Rattle.jobfile.specs.Trace.{eventAt, moves}
 use Rattle.jobfile.specs.declared.Checked.{Checked}
 use Rattle.jobfile.specs.declared.Checked.the-variants.{Accepted, Refused as Unread}
 use Rattle.jobfile.specs.declared.Job.{Job}
 use Rattle.jobfile.specs.declared.event.Event.{Event}
-use Rattle.jobfile.specs.declared.event.Event.the-variants.{Spawn, End, Sync, Read, Write}
+use Rattle.jobfile.specs.declared.event.Move.{Move}
+use Rattle.jobfile.specs.declared.event.Access.{Access}
+use Rattle.jobfile.specs.declared.event.Access.the-variants.{None, To}
+use Rattle.jobfile.specs.Events.{accessOf}
 use Rattle.relation.specs.Parallel.{Before as IsBefore, Parallel as IsParallel}
 use Rattle.relation.specs.Walk.{par}
 use Rattle.relation.specs.declared.Answer.{Answer}
@@ -42,36 +45,37 @@ answerEvent After = 0
 answerEvent Parallel = 0
 answerEvent (Refused r) = r .event
 
--- an access is a read or a write
-abbrev pub isAccess : Event → Bool
-isAccess Spawn = false
-isAccess End = false
-isAccess Sync = false
-isAccess (Read r) = true
-isAccess (Write r) = true
+abbrev pub isAccess : Access → Bool
+isAccess None = false
+isAccess (To kind r) = true
 
-module _ (ev : ℕ → Event) where
+module _ (mv : ℕ → Move) where
   -- what an answer says of two accesses i and j, by the definition; a theorem ties the walk of `compareOf` to it
   abbrev pub Says : ℕ → ℕ → Answer → Type 0
   Says i j Same = i ≡ j
-  Says i j Before = IsBefore ev i j
-  Says i j After = IsBefore ev j i
-  Says i j Parallel = IsParallel ev i j ⊎ IsParallel ev j i
+  Says i j Before = IsBefore mv i j
+  Says i j After = IsBefore mv j i
+  Says i j Parallel = IsParallel mv i j ⊎ IsParallel mv j i
   Says i j (Refused r) = ⊥
 
   -- the answer, by the walk that decides parallel
   unfoldable pub compareOf : ℕ → ℕ → Answer
   compareOf i j =
       cond (eqb i j) Same
-      (cond (ltb i j) (cond (par ev i j) Parallel Before)
-      (cond (par ev j i) Parallel After))
+      (cond (ltb i j) (cond (par mv i j) Parallel Before)
+      (cond (par mv j i) Parallel After))
+
+-- the events of a trace, and whether event n is an access
+module _ (ev : ℕ → Event) where
+  abbrev pub accessAt : ℕ → Bool
+  accessAt n = isAccess (accessOf (ev n))
 
   -- "the question with 15 for each number, then 18 for each"; 15: "an event number not below" the event count; 18: "question about an
   -- event that is no access"
   unfoldable pub askedOf : ℕ → ℕ → ℕ → Answer
   askedOf count i j =
       cond (ltb i count && ltb j count)
-      (cond (isAccess (ev i) && isAccess (ev j)) (compareOf i j)
+      (cond (accessAt i && accessAt j) (compareOf (moves ev) i j)
       (Refused (refusalOf 18 0)))
       (Refused (refusalOf 15 0))
 
@@ -89,8 +93,8 @@ pub record Accesses (file : List ℕ) (job : Job) (i j : ℕ) : Type 0 where
   pub accepted : checkOf file ≡ Accepted job
   pub first-below : i < job .events
   pub second-below : j < job .events
-  pub first-access : isAccess (eventsOf file job i) ≡ true
-  pub second-access : isAccess (eventsOf file job j) ≡ true
+  pub first-access : accessAt (eventsOf file job) i ≡ true
+  pub second-access : accessAt (eventsOf file job) j ≡ true
 
 -- "The question takes a file and two event numbers"
 unfoldable pub questionOf : List ℕ → ℕ → ℕ → Answer

@@ -5,38 +5,22 @@
 use mathlib.Core.Bool.{Bool, true, false}
 use mathlib.Core.List.{List, [], _∷_}
 use Prim.Native.Nat.{ℕ, zero, suc, _+_, _-_}
-use Rattle.jobfile.specs.declared.event.Event.{Event}
-use Rattle.jobfile.specs.declared.event.Event.the-variants.{Spawn, End, Sync, Read, Write}
+use Rattle.jobfile.specs.declared.event.Move.{Move}
+use Rattle.jobfile.specs.declared.event.Move.the-variants.{Opens, Closes, Joins, Stays}
 
-abbrev pub isSpawn : Event → Bool
-isSpawn Spawn = true
-isSpawn End = false
-isSpawn Sync = false
-isSpawn (Read r) = false
-isSpawn (Write r) = false
-
--- what an event does to a walker; `down b`: the end of a task, and b says that the task was spawned
-pub data Move : Type 0 where
-  up : Move
-  down : Bool → Move
-  join : Move
-  stay : Move
-
-abbrev pub moveOf : Event → Bool → Move
-moveOf Spawn b = up
-moveOf End b = down b
-moveOf Sync b = join
-moveOf (Read r) b = stay
-moveOf (Write r) b = stay
+abbrev pub isSpawn : Move → Bool
+isSpawn Opens = true
+isSpawn Closes = false
+isSpawn Joins = false
+isSpawn Stays = false
 
 -- the events that opened the open tasks, the current task's first; the root has none
-abbrev pub restack : Event → ℕ → List ℕ → List ℕ
-restack Spawn n opened = n ∷ opened
-restack End n [] = []
-restack End n (s ∷ opened) = opened
-restack Sync n opened = opened
-restack (Read r) n opened = opened
-restack (Write r) n opened = opened
+abbrev pub restack : Move → ℕ → List ℕ → List ℕ
+restack Opens n opened = n ∷ opened
+restack Closes n [] = []
+restack Closes n (s ∷ opened) = opened
+restack Joins n opened = opened
+restack Stays n opened = opened
 
 abbrev pub headOr : List ℕ → ℕ → ℕ
 headOr [] d = d
@@ -46,36 +30,37 @@ pub record Walker : Type 0 where
   pub height : ℕ
   pub par : Bool
 
-abbrev pub moved : Move → ℕ → Bool → Walker
-moved up h p = record { height = suc h; par = p }
-moved (down b) zero p = record { height = zero; par = b }
-moved (down b) (suc h) p = record { height = h; par = p }
-moved join zero p = record { height = zero; par = false }
-moved join (suc h) p = record { height = suc h; par = p }
-moved stay h p = record { height = h; par = p }
+-- what a move does to a walker; b says that the current task, the one that an end closes, was spawned
+abbrev pub moved : Move → Bool → ℕ → Bool → Walker
+moved Opens b h p = record { height = suc h; par = p }
+moved Closes b zero p = record { height = zero; par = b }
+moved Closes b (suc h) p = record { height = h; par = p }
+moved Joins b zero p = record { height = zero; par = false }
+moved Joins b (suc h) p = record { height = suc h; par = p }
+moved Stays b h p = record { height = h; par = p }
 
 abbrev pub start : Walker
 start = record { height = zero; par = false }
 
-abbrev pub move : Move → Walker → Walker
-move a w = moved a (w .height) (w .par)
+abbrev pub move : Move → Bool → Walker → Walker
+move m b w = moved m b (w .height) (w .par)
 
-module _ (ev : ℕ → Event) where
+module _ (mv : ℕ → Move) where
   unfoldable pub opened : ℕ → List ℕ
   opened zero = []
-  opened (suc n) = restack (ev n) n (opened n)
+  opened (suc n) = restack (mv n) n (opened n)
 
   -- the task that is current at n was spawned
   abbrev pub spawned : ℕ → Bool
-  spawned n = isSpawn (ev (headOr (opened n) 0))
+  spawned n = isSpawn (mv (headOr (opened n) 0))
 
-  unfoldable pub moveAt : ℕ → Move
-  moveAt n = moveOf (ev n) (spawned n)
+  unfoldable pub moveAt : ℕ → Walker → Walker
+  moveAt n w = move (mv n) (spawned n) w
 
   -- the walk from p over k events
   unfoldable pub walkFor : ℕ → ℕ → Walker
   walkFor p zero = start
-  walkFor p (suc k) = move (moveAt (p + k)) (walkFor p k)
+  walkFor p (suc k) = moveAt (p + k) (walkFor p k)
 
   -- the walk from p to q
   unfoldable pub walk : ℕ → ℕ → Walker

@@ -2,11 +2,12 @@
 ghost use mathlib.Core.Path.{_≡_};
 ghost use mathlib.Core.Bool.{true};
 ghost use Prim.Native.Nat.{_+_, _≤_, _<_};
-ghost use Rattle.jobfile.specs.Trace.{eventAt};
-ghost use Rattle.relation.specs.Walk.{moveOf, move, par};
+ghost use Rattle.jobfile.specs.Trace.{eventAt, moves};
+ghost use Rattle.relation.specs.Walk.{move, par};
 ghost use Rattle.relation.specs.Between.{walkerOf, Walkable};
-use jobfile::Event;
+use jobfile::Move;
 use jobfile::event_at;
+use jobfile::move_of;
 
 // How far the current task lies under the innermost open task that contained the start, and
 // whether the start is parallel to where the walk stands.
@@ -19,7 +20,7 @@ pub struct Walker {
 // requires: q is an event of the part, and no end up to it closes the root.
 pub fn parallel(part: &[u8], p: usize, q: usize) -> bool
     requires { ⌜ Walkable (now part) p q ⌝ }
-    ensures { λ r. ⌜ r ≡ par (eventAt (now (part .entry))) p q ⌝ }
+    ensures { λ r. ⌜ r ≡ par (moves (eventAt (now (part .entry)))) p q ⌝ }
 {
     let mut w = Walker {
         height: 0,
@@ -27,7 +28,7 @@ pub fn parallel(part: &[u8], p: usize, q: usize) -> bool
     };
     let mut n = p;
     while n < q {
-        w = moved(w, event_at(part, n));
+        w = moved(w, move_of(event_at(part, n)));
         n += 1;
     }
     w.par
@@ -35,17 +36,17 @@ pub fn parallel(part: &[u8], p: usize, q: usize) -> bool
 
 // One event further. Every task that an end closes was spawned.
 // requires: the height is below the limit of events, so that it does not wrap.
-fn moved(w: Walker, e: Event) -> Walker
+fn moved(w: Walker, m: Move) -> Walker
     requires { ⌜ w .height < 1000000 ⌝ }
-    ensures { λ r. ⌜ walkerOf r ≡ move (moveOf e true) (walkerOf w) ⌝ }
+    ensures { λ r. ⌜ walkerOf r ≡ move m true (walkerOf w) ⌝ }
     ensures { λ r. ⌜ r .height ≤ w .height + 1 ⌝ }
 {
-    match e {
-        Event::Spawn => Walker {
+    match m {
+        Move::Opens => Walker {
             height: w.height + 1,
             par: w.par,
         },
-        Event::End => {
+        Move::Closes => {
             if w.height == 0 {
                 return Walker {
                     height: 0,
@@ -57,7 +58,7 @@ fn moved(w: Walker, e: Event) -> Walker
                 par: w.par,
             }
         }
-        Event::Sync => {
+        Move::Joins => {
             if w.height > 0 {
                 return w;
             }
@@ -66,7 +67,6 @@ fn moved(w: Walker, e: Event) -> Walker
                 par: false,
             }
         }
-        Event::Read(_) => w,
-        Event::Write(_) => w,
+        Move::Stays => w,
     }
 }

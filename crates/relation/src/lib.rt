@@ -8,13 +8,14 @@ ghost use mathlib.Core.Path.{_≡_};
 ghost use mathlib.Core.Bool.{_&&_};
 ghost use Prim.Native.Nat.{_<_};
 ghost use lib.Dec.{ltb};
-ghost use Rattle.jobfile.specs.Trace.{eventAt};
+ghost use Rattle.jobfile.specs.Trace.{eventAt, moves};
 ghost use Rattle.relation.specs.Between.{Walkable};
-ghost use Rattle.relation.specs.Question.{questionOf, askedOf, compareOf, isAccess};
+ghost use Rattle.relation.specs.Question.{questionOf, askedOf, compareOf, isAccess, accessAt};
 use between::parallel;
+use jobfile::Access;
 use jobfile::Checked;
-use jobfile::Event;
 use jobfile::Refusal;
+use jobfile::access_of;
 use jobfile::check;
 use jobfile::event_at;
 use jobfile::refuse;
@@ -73,24 +74,21 @@ fn both(a: bool, b: bool) -> bool
 // requires: as `asked`.
 fn access_at(part: &[u8], count: usize, n: usize) -> bool
     requires { ⌜ Walkable (now part) 0 count ⌝ }
-    ensures { λ r. ⌜ r ≡ (ltb n count && isAccess (eventAt (now (part .entry)) n)) ⌝ }
+    ensures { λ r. ⌜ r ≡ (ltb n count && accessAt (eventAt (now (part .entry))) n) ⌝ }
 {
     if n >= count {
         return false;
     }
-    is_access(event_at(part, n))
+    is_access(access_of(event_at(part, n)))
 }
 
-// Whether an event is a read or a write.
-fn is_access(e: Event) -> bool
-    ensures { λ r. ⌜ r ≡ isAccess e ⌝ }
+// Whether it is an access at all.
+fn is_access(a: Access) -> bool
+    ensures { λ r. ⌜ r ≡ isAccess a ⌝ }
 {
-    match e {
-        Event::Spawn => false,
-        Event::End => false,
-        Event::Sync => false,
-        Event::Read(_) => true,
-        Event::Write(_) => true,
+    match a {
+        Access::None => false,
+        Access::To { kind: _, record: _ } => true,
     }
 }
 
@@ -99,7 +97,7 @@ fn is_access(e: Event) -> bool
 fn compare(part: &[u8], count: usize, i: usize, j: usize) -> Answer
     requires { ⌜ Walkable (now part) 0 count ⌝ }
     requires { ⌜ (i < count) × (j < count) ⌝ }
-    ensures { λ r. ⌜ r ≡ compareOf (eventAt (now (part .entry))) i j ⌝ }
+    ensures { λ r. ⌜ r ≡ compareOf (moves (eventAt (now (part .entry)))) i j ⌝ }
 {
     if i == j {
         return Answer::Same;

@@ -11,13 +11,17 @@ returns c = rw (le-ltb (c .before .before .args .n) (c .before .before .args .co
 event-at-requires : tie.Need-event-at-requires
 event-at-requires c κs = search needs
 
+access-of-requires : tie.Need-access-of-requires
+access-of-requires c κs = search needs
+
 is-access-requires : tie.Need-is-access-requires
 is-access-requires c κs = search needs
 
 returns-2 : tie.Need-returns-2
 returns-2 c =
-    access-below _ _ (c .before .event-at .result) _ (c .is-access .result) (c .before .before .if1 .left) (c .before .event-at .ensures)
-    (c .is-access .ensures)
+    let read = c .before .before in
+    access-below _ _ (read .event-at .result) _ (c .before .access-of .result) (c .is-access .result) (read .before .if1 .left) (read .event-at .ensures)
+    (c .before .access-of .ensures) (c .is-access .ensures)
 
 pub access-at-spec : {M : Type 1} → statement M
-access-at-spec = tie.close (tie.spec returns event-at-requires is-access-requires returns-2)
+access-at-spec = tie.close (tie.spec returns event-at-requires access-of-requires is-access-requires returns-2)

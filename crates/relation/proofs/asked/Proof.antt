@@ -4,7 +4,7 @@ use mathlib.Core.Bool.{Bool, true, false, _&&_}
 use lib.Dec.{ltb}
 use borrow.Author.Tests.{not-true, not-false}
 use Rattle.jobfile.specs.Trace.{eventAt}
-use Rattle.relation.specs.Question.{isAccess}
+use Rattle.relation.specs.Question.{accessAt}
 use Rattle.relation.specs.declared.Answer.the-variants.{Refused}
 use Rattle.relation.proofs.Answers.{both-told, both-below, asked-over, asked-no-access, asked-accesses}
 use borrow.Author.Needs.{needs}
@@ -21,8 +21,8 @@ below v c e = sym (c .both .ensures) ∙ e
 tested : (v : Bool) (c : tie.After-both2) → c .both2 .result ≡ v
     → let S = c .before .before .before .before .before in
     let ev = eventAt (S .args .part .now) in
-    ((ltb (S .args .i) (S .args .count) && isAccess (ev (S .args .i)))
-    && (ltb (S .args .j) (S .args .count) && isAccess (ev (S .args .j)))) ≡ v
+    ((ltb (S .args .i) (S .args .count) && accessAt ev (S .args .i))
+    && (ltb (S .args .j) (S .args .count) && accessAt ev (S .args .j))) ≡ v
 tested v c e = both-told (c .before .before .access-at .ensures) (c .before .access-at2 .ensures) (c .both2 .ensures) e
 
 both-requires : tie.Need-both-requires

@@ -1,4 +1,4 @@
--- `relation::between::moved` meets its contract: in each arm the event is known, and the test of the height picks the case of the move.
+-- `relation::between::moved` meets its contract: in each arm the move is known, and the test of the height picks the case of the move.
 -- Assumes nothing.
 use Prim.Native.Nat.{_≤_, _<_}
 use native.Mathlib.Omega.{arith}
@@ -33,9 +33,6 @@ returns-2 c =
 enum-told-4 : tie.Need-enum-told-4
 enum-told-4 c = search needs
 
-enum-told-5 : tie.Need-enum-told-5
-enum-told-5 c = search needs
-
 returns-3 : tie.Need-returns-3
 returns-3 c = (rw (c .before .enum-told .given .1) (moved-up _ _), omega arith)
 
@@ -50,9 +47,6 @@ returns-5 c =
 returns-6 : tie.Need-returns-6
 returns-6 c = (rw (c .enum-told4 .given .1), omega arith)
 
-returns-7 : tie.Need-returns-7
-returns-7 c = (rw (c .enum-told5 .given .1), omega arith)
-
 pub moved-spec : {M : Type 1} → statement M
 moved-spec =
     tie.close
@@ -65,9 +59,7 @@ moved-spec =
     enum-told-3
     returns-2
     enum-told-4
-    enum-told-5
     returns-3
     returns-4
     returns-5
-    returns-6
-    returns-7)
+    returns-6)

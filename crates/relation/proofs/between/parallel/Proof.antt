@@ -1,10 +1,11 @@
 -- `relation::between::parallel` meets its contract. The loop's invariant: the walker is that of the definition, and no higher than the events
 -- passed. The measure is what is left of the way. Assumes nothing.
 use Prim.Native.Nat.{_≤_, _-_}
-use mathlib.Core.Path.{_≡_, sym, ap}
+use mathlib.Core.Path.{_≡_, sym, ap, _∙_}
 use native.Mathlib.Omega.{arith}
 use borrow.Author.Needs.{needs}
-use Rattle.jobfile.specs.Trace.{eventAt}
+use Rattle.jobfile.specs.Events.{moveOf}
+use Rattle.jobfile.specs.Trace.{eventAt, moves}
 use Rattle.relation.specs.Between.{walkerOf}
 use Rattle.relation.specs.Walk.{walk}
 use Rattle.relation.proofs.Spawned.{walk-next}
@@ -13,7 +14,7 @@ use Rattle.relation.proofs.between.parallel.Statement.{statement}
 use Rattle.relation.proofs.between.parallel.Tie as tie
 
 abbrev Inv-loop : tie.InvT-loop
-Inv-loop part p q w₀ n₀ w n = (p ≤ n) × (n ≤ q) × (w .height ≤ n) × (walkerOf w ≡ walk (eventAt part) p n)
+Inv-loop part p q w₀ n₀ w n = (p ≤ n) × (n ≤ q) × (w .height ≤ n) × (walkerOf w ≡ walk (moves (eventAt part)) p n)
 
 abbrev μ-loop : tie.MeasureT-loop
 μ-loop part p q w₀ n₀ w n = q - n
@@ -23,6 +24,9 @@ loop-holds c = (omega arith, omega arith, omega arith, sym (walk-start _ _))
 
 event-at-requires : tie.Need-event-at-requires Inv-loop μ-loop
 event-at-requires c κs = search needs
+
+move-of-requires : tie.Need-move-of-requires Inv-loop μ-loop
+move-of-requires c κs = search needs
 
 moved-requires : tie.Need-moved-requires Inv-loop μ-loop
 moved-requires c κs = search needs
@@ -35,13 +39,14 @@ loop-less c = search needs
 
 loop-again : tie.Need-loop-again Inv-loop μ-loop
 loop-again c =
-    let I = c .before .before .before .loop .inv in
-    let S = c .before .before .before .before .before in (
+    let here = c .before .before .before .before in
+    let I = here .loop .inv in
+    let S = here .before .before in (
       omega arith,
       omega arith,
       omega arith,
-      walk-next (eventAt (S .args .part .now)) (S .args .p) (c .before .before .before .loop .n) (c .before .event-at .result) _ _ (omega arith)
-          (λ m l. S .pre .rooted m (omega arith)) (I .3) (c .before .event-at .ensures) (c .moved .ensures .0),
+      walk-next (moves (eventAt (S .args .part .now))) (S .args .p) (here .loop .n) (c .before .move-of .result) _ _ (omega arith)
+          (λ m l. S .pre .rooted m (omega arith)) (I .3) (c .before .move-of .ensures ∙ ap moveOf (c .before .before .event-at .ensures)) (c .moved .ensures .0),
     )
 
 returns : tie.Need-returns Inv-loop μ-loop
@@ -55,6 +60,7 @@ parallel-spec =
     μ-loop
     loop-holds
     event-at-requires
+    move-of-requires
     moved-requires
     add-n
     loop-less
