@@ -3,7 +3,7 @@ use mathlib.Core.Path.{_≡_, refl}
 use mathlib.Core.List.{List, [], _∷_, map}
 use Prim.Native.Nat.{ℕ}
 use lib.ListN.{length, getD}
-use Rattle.jobfile.specs.Trace.{tasksAt, begunAt}
+use Rattle.jobfile.specs.Trace.{moves, tasksAt, begunAt}
 use Rattle.jobfile.specs.Events.{accessOf}
 use Rattle.jobfile.specs.declared.event.Event.{Event}
 use Rattle.jobfile.specs.declared.event.Event.the-variants.{Spawn as S, End as E, Sync as J, Read as R, Write as W}
@@ -26,7 +26,7 @@ pub record Answer : Type 0 where
 abbrev pub judged : List Event → Answer
 judged events = record {
   answer = verdict (listed events) (length events);
-  strands = begunAt (listed events) (stopAt (listed events) (length events));
+  strands = begunAt (moves (listed events)) (stopAt (listed events) (length events));
 }
 
 -- the starred cases, 1 to 10

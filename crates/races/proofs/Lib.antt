@@ -10,5 +10,4 @@ pub mod Shown
 pub mod Emptied
 pub mod Mark
 pub mod Named
-pub mod Prefix
 pub mod Cases

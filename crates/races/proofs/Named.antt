@@ -10,6 +10,7 @@ use native.Mathlib.Omega.{arith}
 use native.Mathlib.Decide.{decLe}
 use lib.ListN.{getD}
 use Rattle.jobfile.specs.Events.{accessOf}
+use Rattle.jobfile.specs.Trace.{moves}
 use Rattle.jobfile.specs.declared.event.Event.{Event}
 use Rattle.jobfile.specs.declared.event.Kind.{Kind}
 use Rattle.jobfile.specs.declared.event.Kind.the-variants.{Write, Read}
@@ -65,7 +66,7 @@ clash-is Read Read = refl
 module _ (ev : ℕ → Event) where
   -- what the theory assumes
   pub lawful : Lawful (traceOf ev)
-  lawful = record { self = λ n. ap (λ (w : Walker). w .par) (walk-start ev n); passes = par-trans ev }
+  lawful = record { self = λ n. ap (λ (w : Walker). w .par) (walk-start (moves ev) n); passes = par-trans (moves ev) }
 
   pub fit : Fit rules (traceOf ev)
   fit = record {
@@ -73,10 +74,10 @@ module _ (ev : ℕ → Event) where
     classed = λ n r c e. let w = access-of (accessOf (ev n)) r c e in rw (w .2) at (rank-below (w .0));
   }
 
-  pub tied : (k : ℕ) → Rooted ev k → Tied (traceOf ev) (Parallel ev) k
+  pub tied : (k : ℕ) → Rooted (moves ev) k → Tied (traceOf ev) (Parallel (moves ev)) k
   tied k root i j ij jk =
-      let r = rooted-less ev j k (omega arith) root in
-      (walk-complete ev i j r, walk-sound ev i j (omega arith) r)
+      let r = rooted-less (moves ev) j k (omega arith) root in
+      (walk-complete (moves ev) i j r, walk-sound (moves ev) i j (omega arith) r)
 
   -- the places hold earlier accesses of their kind
   place-is : (kind : Kind) (r n m : ℕ) → held rules (traceOf ev) r (rank kind) n ≡ some m → (m < n) × (accessOf (ev m) ≡ To kind r)
@@ -114,19 +115,19 @@ module _ (ev : ℕ → Event) where
   pub first-read-stands : (r n : ℕ) → accessOf (ev n) ≡ To Read r → standing ev r n ≡ none → standing ev r (suc n) ≡ some n
   first-read-stands r n e o = read-takes r n e ∙ rw o
 
-  pub standing-stays : (r n s : ℕ) → Rooted ev n → accessOf (ev n) ≡ To Read r → standing ev r n ≡ some s → Parallel ev s n
+  pub standing-stays : (r n s : ℕ) → Rooted (moves ev) n → accessOf (ev n) ≡ To Read r → standing ev r n ≡ some s → Parallel (moves ev) s n
       → standing ev r (suc n) ≡ some s
-  standing-stays r n s root e o P = read-takes r n e ∙ rw (o, walk-complete ev s n root P)
+  standing-stays r n s root e o P = read-takes r n e ∙ rw (o, walk-complete (moves ev) s n root P)
 
-  pub standing-yields : (r n s : ℕ) → Rooted ev n → accessOf (ev n) ≡ To Read r → standing ev r n ≡ some s → ¬ Parallel ev s n
+  pub standing-yields : (r n s : ℕ) → Rooted (moves ev) n → accessOf (ev n) ≡ To Read r → standing ev r n ≡ some s → ¬ Parallel (moves ev) s n
       → standing ev r (suc n) ≡ some n
   standing-yields r n s root e o f =
       let l = standing-read-is r n s o .0 in
-      let z : par ev s n ≡ false = not-true (par ev s n) (λ t. f (walk-sound ev s n (omega arith) root t)) in
+      let z : par (moves ev) s n ≡ false = not-true (par (moves ev) s n) (λ t. f (walk-sound (moves ev) s n (omega arith) root t)) in
       read-takes r n e ∙ rw (o, z)
 
   -- a race is one of its record
-  race-on : (m j r : ℕ) (P : Race ev m j) → P .number ≡ r → RaceOn rules (traceOf ev) (Parallel ev) r m j
+  race-on : (m j r : ℕ) (P : Race ev m j) → P .number ≡ r → RaceOn rules (traceOf ev) (Parallel (moves ev)) r m j
   race-on m j r P on = record {
     a = rank (P .first-kind);
     b = rank (P .second-kind);
@@ -137,7 +138,7 @@ module _ (ev : ℕ → Event) where
     parallel = P .parallel;
   }
 
-  on-race : (m j r : ℕ) → RaceOn rules (traceOf ev) (Parallel ev) r m j → (P : Race ev m j) × (P .number ≡ r)
+  on-race : (m j r : ℕ) → RaceOn rules (traceOf ev) (Parallel (moves ev)) r m j → (P : Race ev m j) × (P .number ≡ r)
   on-race m j r P =
       let x = access-of (accessOf (ev m)) r (P .a) (P .first) in
       let y = access-of (accessOf (ev j)) r (P .b) (P .second) in (
@@ -158,9 +159,9 @@ module _ (ev : ℕ → Event) where
   abbrev pub RaceFree : ℕ → Type 0
   RaceFree j = (m n : ℕ) → n < j → ¬ Race ev m n
 
-  module _ (k : ℕ) (root : Rooted ev k) where
+  module _ (k : ℕ) (root : Rooted (moves ev) k) where
     -- the rule of the first
-    first-to : (i j r : ℕ) (P : Race ev i j) → P .number ≡ r → First ev i j r → FirstOn rules (traceOf ev) (Parallel ev) r i j
+    first-to : (i j r : ℕ) (P : Race ev i j) → P .number ≡ r → First ev i j r → FirstOn rules (traceOf ev) (Parallel (moves ev)) r i j
     first-to i j r P on (inl x) =
         record { class = 0; below = omega arith; clash = refl; holds = x .0; smallest = λ d w l c e Q. absurd (omega arith) }
     first-to i j r P on (inr x) =
@@ -176,18 +177,18 @@ module _ (ev : ℕ → Event) where
           smallest = λ d w l c e Q. let z : d ≡ 0 = omega arith in x .0 w (rw z at e) Q;
         }
 
-    first-from : (i j r : ℕ) → Parallel ev i j → FirstOn rules (traceOf ev) (Parallel ev) r i j → First ev i j r
+    first-from : (i j r : ℕ) → Parallel (moves ev) i j → FirstOn rules (traceOf ev) (Parallel (moves ev)) r i j → First ev i j r
     first-from i j r P F = go (F .class) (F .below) (F .holds) (F .smallest)
       where
         go : (c : ℕ) → c < 2 → held rules (traceOf ev) r c j ≡ some i
             → ((d w : ℕ) → d < c → (isWrite d || isWrite (classOf (actOf (accessOf (ev j))))) ≡ true → held rules (traceOf ev) r d j ≡ some w
-            → ¬ Parallel ev w j)
+            → ¬ Parallel (moves ev) w j)
             → First ev i j r
         go zero l h s = inl (h, P)
         go (suc zero) l h s = inr (λ w e. s 0 w (omega arith) refl e, h)
         go (suc (suc c)) l h s = absurd (omega arith)
 
-    named-to : (i j r : ℕ) → Named ev k i j r → OneRace rules (traceOf ev) (Parallel ev) k i j r
+    named-to : (i j r : ℕ) → Named ev k i j r → OneRace rules (traceOf ev) (Parallel (moves ev)) k i j r
     named-to i j r N = record {
       named = record {
         within = N .within;
@@ -198,11 +199,11 @@ module _ (ev : ℕ → Event) where
       least = λ q m n M. go q m n M (decLe j n);
     }
       where
-        go : (q m n : ℕ) → PairOn rules (traceOf ev) (Parallel ev) q k m n → Dec (j ≤ n) → j ≤ n
+        go : (q m n : ℕ) → PairOn rules (traceOf ev) (Parallel (moves ev)) q k m n → Dec (j ≤ n) → j ≤ n
         go q m n M (yes h) = h
         go q m n M (no h) = absurd (N .earliest m n (omega arith) (on-race m n q (M .is-race) .0))
 
-    named-from : (i j r : ℕ) → OneRace rules (traceOf ev) (Parallel ev) k i j r → Named ev k i j r
+    named-from : (i j r : ℕ) → OneRace rules (traceOf ev) (Parallel (moves ev)) k i j r → Named ev k i j r
     named-from i j r W =
         let x = on-race i j r (W .named .is-race) in
         record {
@@ -210,31 +211,31 @@ module _ (ev : ℕ → Event) where
           is-race = x .0;
           on-record = x .1;
           earliest = λ m n l P.
-              let w = race-early rules (traceOf ev) lawful fit (Parallel ev) k (tied k root) (P .number) m n
+              let w = race-early rules (traceOf ev) lawful fit (Parallel (moves ev)) k (tied k root) (P .number) m n
               (omega (arith, W .named .within)) (race-on m n (P .number) P refl) in
               absurd (omega (arith, w .2, W .least (P .number) (w .0) (w .1) (w .3)));
           first = first-from i j r (W .named .is-race .parallel) (W .named .first);
         }
 
     -- the pair that 01 names is the earliest of the records' pairs
-    pub named-is : (i j r : ℕ) → Named ev k i j r ↔ OneRace rules (traceOf ev) (Parallel ev) k i j r
+    pub named-is : (i j r : ℕ) → Named ev k i j r ↔ OneRace rules (traceOf ev) (Parallel (moves ev)) k i j r
     named-is i j r = (named-to i j r, named-from i j r)
 
   -- the verdict is a race exactly if the pair is the one to be named
-  pub verdict-race : (k i j r : ℕ) → Rooted ev k → (verdict ev k ≡ race i j r) ↔ Named ev k i j r
+  pub verdict-race : (k i j r : ℕ) → Rooted (moves ev) k → (verdict ev k ≡ race i j r) ↔ Named ev k i j r
   verdict-race k i j r root =
-      let v = verdict-earliest rules (traceOf ev) lawful fit (Parallel ev) k (tied k root) i j r in
+      let v = verdict-earliest rules (traceOf ev) lawful fit (Parallel (moves ev)) k (tied k root) i j r in
       (λ e. named-from k root i j r (v .0 e), λ N. v .1 (named-to k root i j r N))
 
   -- no second pair fits
-  pub named-only : (k i j r i′ j′ r′ : ℕ) → Rooted ev k → Named ev k i j r → Named ev k i′ j′ r′ → (i ≡ i′) × (j ≡ j′) × (r ≡ r′)
+  pub named-only : (k i j r i′ j′ r′ : ℕ) → Rooted (moves ev) k → Named ev k i j r → Named ev k i′ j′ r′ → (i ≡ i′) × (j ≡ j′) × (r ≡ r′)
   named-only k i j r i′ j′ r′ root N M =
-      one-race-only rules (traceOf ev) lawful fit (Parallel ev) k (tied k root) i j r i′ j′ r′ (named-to k root i j r N) (named-to k root i′ j′ r′ M)
+      one-race-only rules (traceOf ev) lawful fit (Parallel (moves ev)) k (tied k root) i j r i′ j′ r′ (named-to k root i j r N) (named-to k root i′ j′ r′ M)
 
   -- the verdict is clean exactly if there is no race
-  pub verdict-clean : (k : ℕ) → Rooted ev k → (verdict ev k ≡ clean) ↔ RaceFree k
+  pub verdict-clean : (k : ℕ) → Rooted (moves ev) k → (verdict ev k ≡ clean) ↔ RaceFree k
   verdict-clean k root =
-      let v = verdict-none rules (traceOf ev) lawful fit (Parallel ev) k (tied k root) in (
+      let v = verdict-none rules (traceOf ev) lawful fit (Parallel (moves ev)) k (tied k root) in (
         λ e m n l P. v .0 e (P .number) m n l (race-on m n (P .number) P refl),
         λ free. v .1 (λ r m n l P. free m n l (on-race m n r P .0)),
       )

@@ -4,6 +4,7 @@ use mathlib.Core.Bool.{Bool, false, _||_}
 use Prim.Native.Nat.{ℕ, zero, suc, _+_, _*_}
 use lib.Dec.{eqb}
 use Rattle.jobfile.specs.Events.{accessOf}
+use Rattle.jobfile.specs.Trace.{moves}
 use Rattle.jobfile.specs.declared.event.Event.{Event}
 use Rattle.jobfile.specs.declared.event.Kind.{Kind}
 use Rattle.jobfile.specs.declared.event.Kind.the-variants.{Write, Read}
@@ -43,4 +44,4 @@ two wrote stood (suc (suc c)) = false
 
 -- a trace of events
 abbrev pub traceOf : (ℕ → Event) → Trace
-traceOf ev = record { act = λ n. actOf (accessOf (ev n)); par = par ev; strand = strandAt ev }
+traceOf ev = record { act = λ n. actOf (accessOf (ev n)); par = par (moves ev); strand = strandAt (moves ev) }

@@ -3,6 +3,7 @@ use mathlib.Core.Path.{_≡_}
 use mathlib.Core.Logic.{_⊎_}
 use mathlib.Core.Option.{Option, some}
 use Prim.Native.Nat.{ℕ, _<_}
+use Rattle.jobfile.specs.Trace.{moves}
 use Rattle.jobfile.specs.declared.event.Event.{Event}
 use Rattle.jobfile.specs.declared.event.Kind.the-variants.{Write, Read}
 use Rattle.relation.specs.Parallel.{Parallel}
@@ -23,8 +24,8 @@ module _ (ev : ℕ → Event) where
   -- the first that goes with the second j on record r
   abbrev pub First : ℕ → ℕ → ℕ → Type 0
   First i j r =
-      ((lastWrite r j ≡ some i) × Parallel ev i j)
-      ⊎ (((w : ℕ) → lastWrite r j ≡ some w → ¬ Parallel ev w j) × (standing r j ≡ some i))
+      ((lastWrite r j ≡ some i) × Parallel (moves ev) i j)
+      ⊎ (((w : ℕ) → lastWrite r j ≡ some w → ¬ Parallel (moves ev) w j) × (standing r j ≡ some i))
 
   -- by the definition alone: event j is the second and event i the first, on record r, within the first k events
   pub record Named (k i j r : ℕ) : Type 0 where

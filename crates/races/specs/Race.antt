@@ -3,6 +3,7 @@ use mathlib.Core.Path.{_≡_}
 use mathlib.Core.Bool.{Bool, true, false}
 use Prim.Native.Nat.{ℕ, _<_}
 use Rattle.jobfile.specs.Events.{accessOf}
+use Rattle.jobfile.specs.Trace.{moves}
 use Rattle.jobfile.specs.declared.event.Event.{Event}
 use Rattle.jobfile.specs.declared.event.Kind.{Kind}
 use Rattle.jobfile.specs.declared.event.Kind.the-variants.{Write, Read}
@@ -24,4 +25,4 @@ pub record Race (ev : ℕ → Event) (m j : ℕ) : Type 0 where
   pub first : accessOf (ev m) ≡ To first-kind number
   pub second : accessOf (ev j) ≡ To second-kind number
   pub clash : conflict first-kind second-kind ≡ true
-  pub parallel : Parallel ev m j
+  pub parallel : Parallel (moves ev) m j
