@@ -133,6 +133,11 @@ module _ (R : Rules) (T : Trace) where
   unfolding found
   found-some r n b f x e = rw (x, e, eq-eqb r r refl)
 
+  -- an event that is no access finds nothing, on any record
+  pub found-off : (r n : ℕ) → onRecord r (T .act n) ≡ false → found R T r n ≡ false
+  unfolding found
+  found-off r n e = rw e
+
   given-some : (o : Option ℕ) → given o ≡ true → (i : ℕ) × (o ≡ some i)
   given-some none t = absurd (false≢true t)
   given-some (some i) t = (i, refl)

@@ -13,7 +13,7 @@ use Rattle.races.specs.Rules.{Rules, Fit}
 use Rattle.races.specs.Places.{holds, stood, parTo, heldOf, inClass, held, firstOf, found}
 use Rattle.races.specs.Records.{secondOf, stopOf}
 use Rattle.races.specs.Shown.{shownAt}
-use Rattle.races.proofs.Found.{second-next}
+use Rattle.races.proofs.Found.{found-off, second-next}
 
 off-class : (r c : ℕ) (a : Act) → onRecord r a ≡ false → isOf r c a ≡ false
 off-class r c other e = refl
@@ -86,22 +86,18 @@ module _ (R : Rules) (T : Trace) where
     pub race-on : (r n : ℕ) → secondOf R T r n ≡ none → found R T r n ≡ true → secondOf R T r (suc n) ≡ some n
     race-on r n e f = second-next R T law fit r n ∙ rw (e, f)
 
-    found-off : (r n : ℕ) → onRecord r (T .act n) ≡ false → found R T r n ≡ false
-    unfolding found
-    found-off r n e = rw e
-
     -- an event elsewhere changes nothing
     pub elsewhere-stays : (r n : ℕ) → onRecord r (T .act n) ≡ false → (c : ℕ) → shownAt R T (suc n) r c ≡ shownAt R T n r c
     elsewhere-stays r n off c = go (secondOf R T r n) refl
       where
         go : (o : Option ℕ) → secondOf R T r n ≡ o → shownAt R T (suc n) r c ≡ shownAt R T n r c
         go none e =
-            let w = clean-follows r n e (found-off r n off) c in
+            let w = clean-follows r n e (found-off R T r n off) c in
             w .0 ∙ held-off r c n (off-class r c (T .act n) off) ∙ sym (w .1)
         go (some j) e = frozen-stays r n j e c
 
     pub elsewhere-second : (r n : ℕ) → onRecord r (T .act n) ≡ false → secondOf R T r (suc n) ≡ secondOf R T r n
-    elsewhere-second r n off = second-next R T law fit r n ∙ rw (found-off r n off) (kept (secondOf R T r n))
+    elsewhere-second r n off = second-next R T law fit r n ∙ rw (found-off R T r n off) (kept (secondOf R T r n))
       where
         kept : (o : Option ℕ) → orHere o false n ≡ o
         kept none = refl

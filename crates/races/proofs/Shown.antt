@@ -6,6 +6,7 @@ use mathlib.Core.List.{List}
 use mathlib.Core.Bool.{Bool, true, false}
 use mathlib.Core.Option.{Option, none, some}
 use Prim.Native.Nat.{ℕ, suc, _+_, _<_}
+use native.Mathlib.Omega.{arith}
 use lib.ListN.{getD}
 use Rattle.races.specs.Trace.{Act, other, access, Trace, Lawful, onRecord}
 use Rattle.races.specs.Rules.{Rules, Fit}
@@ -14,10 +15,11 @@ use Rattle.races.specs.Records.{secondOf}
 use Rattle.races.specs.Entries.{strandOr, Layout, Here, Holding}
 use Rattle.races.specs.Shown.{metOf, shownAt, Shown, Facing, Placeable, Placed}
 use Rattle.races.specs.declared.Met.{Met}
+use Rattle.races.specs.declared.Met.the-variants.{First, Nothing}
 use Rattle.races.proofs.Standing.{held-below}
 use Rattle.races.proofs.Found.{found-none, found-some}
 use Rattle.races.proofs.Entries.{holding-same, holding-unique}
-use Rattle.races.proofs.Places.{held-start, none-yet, stop-none, frozen-stays, elsewhere-stays, clean-on, race-on}
+use Rattle.races.proofs.Places.{held-start, none-yet, stop-none, frozen-stays, racing-stays, elsewhere-stays, clean-on, race-on}
 use Rattle.races.proofs.Accesses.{off-record, same-or-not}
 
 -- what the record's second becomes with event n
@@ -65,6 +67,25 @@ second-after {R = R} {T = T} {n = n} {r = r} {b = b} F = go (firstOf R T r n) re
     go : (o : Option ℕ) → firstOf R T r n ≡ o → secondOf R T r (suc n) ≡ secondAfter n o
     go none e = clean-on R T (F .law) (F .fit) r n (F .unraced) (found-none R T r n e)
     go (some f) e = race-on R T (F .law) (F .fit) r n (F .unraced) (found-some R T r n b f (F .is-access) e)
+
+-- "The racing access itself changes no place": what the places show behind it they showed before it
+pub shown-racing : {R : Rules} {T : Trace} {Y : Layout} {n r b records : ℕ} {P₀ P : List ℕ} {told : ℕ → Bool} → Facing R T n r b told
+    → (f : ℕ) → firstOf R T r n ≡ some f → Shown R T Y (suc n) records P₀ P → Shown R T Y n records P₀ P
+shown-racing {R = R} {T = T} {n = n} {r = r} {b = b} F f e S =
+    holding-same S (shownAt R T n) (λ q c h. sym (go q c (same-or-not q r)))
+  where
+    go : (q c : ℕ) → (q ≡ r) ⊎ (q ≢ r) → shownAt R T (suc n) q c ≡ shownAt R T n q c
+    go q c (inl z) = rw z (racing-stays R T (F .law) (F .fit) r n (F .unraced) (found-some R T r n b f (F .is-access) e) c)
+    go q c (inr z) = elsewhere-stays R T (F .law) (F .fit) q n (ap (onRecord q) (F .is-access) ∙ off-record q r b z) c
+
+-- what was met is what the rules name
+pub first-met : (o : Option ℕ) (f : ℕ) → First f ≡ metOf o → o ≡ some f
+first-met none f e = absurd (let z : _≡_ {A = ℕ} 0 1 = cc in omega arith)
+first-met (some g) f e = let z : f ≡ g = cc in rw z
+
+pub nothing-met : (o : Option ℕ) → Nothing ≡ metOf o → o ≡ none
+nothing-met none e = refl
+nothing-met (some g) e = absurd (let z : _≡_ {A = ℕ} 0 1 = cc in omega arith)
 
 -- no second answer and no second contents fit the contract of an access
 pub placed-once : (R : Rules) (Y : Layout) (told : ℕ → Bool) (P : List ℕ) (r b at strand : ℕ) (P′ P″ : List ℕ) (met met′ : Met)
