@@ -6,3 +6,4 @@ pub mod Whole
 pub mod Told
 pub mod Accepted
 pub mod Cases
+pub mod Accesses

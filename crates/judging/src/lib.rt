@@ -5,13 +5,14 @@ ghost use mathlib.Core.Path.{_≡_};
 ghost use lib.ListN.{length};
 ghost use Rattle.judging.specs.Answers.{judgeOf, judgeFault, judgedOf};
 ghost use Rattle.judging.specs.Buffers.{Leaves, Shows};
-ghost use Rattle.judging.specs.Turns.{Run, Turnable, Turns, Meetable, Meets};
+ghost use Rattle.judging.specs.Turns.{Run, Turnable, Taken};
+ghost use Rattle.judging.specs.Asking.{heldOr, heldAbove, Askable};
 ghost use Rattle.jobfile.specs.Trace.{eventAt};
-ghost use Rattle.races.specs.Verdict.{stopAt};
-ghost use Rattle.races.specs.Race.{recordOf};
-ghost use Prim.Native.Nat.{_≤_};
+ghost use Rattle.strands.specs.Memory.{memory, tasks};
+ghost use Rattle.races.specs.Named.{stopAt};
+ghost use Prim.Native.Nat.{_<_, _≤_};
+use jobfile::Access;
 use jobfile::Checked;
-use jobfile::Event;
 use jobfile::Job;
 use jobfile::Refusal;
 use races::Met;
@@ -144,7 +145,8 @@ fn run(
     }
 }
 
-// Event i: what it meets at its record's places, and else the strand that it may begin.
+// Event i: an access finds the first of a race at its record's places or goes into one of them; any other event moves, and may begin a
+// strand. An access does not move.
 fn take(
     part: &[u8],
     i: usize,
@@ -155,42 +157,52 @@ fn take(
     links: &mut [u16],
     places: &mut [u32],
 ) -> Turn
-    requires { ⌜ Turnable (now part) i (now labels) (now links) (now places) (now lasts) (now joins) state ⌝ }
-    ensures { λ r. ⌜ Turns (now (part .entry)) i (now (labels .entry)) (now (links .entry)) (now (places .entry)) (now (lasts .entry)) (now (joins .entry)) state (now (labels .exit)) (now (links .exit)) (now (places .exit)) (now (lasts .exit)) (now (joins .exit)) r ⌝ }
+    requires { ⌜ Turnable (now part) i (memory labels links) (tasks lasts joins) (now places) state ⌝ }
+    ensures { λ r. ⌜ Taken (now (part .entry)) i state lasts joins labels links places r ⌝ }
 {
     let e = jobfile::event_at(part, i);
-    match meet(e, i, state.strands - 1, places, labels) {
-        Met::First(first) => Turn::Raced {
-            first,
-            record: record_of(e),
-        },
-        Met::Nothing => Turn::Go(strands::advance(e, state, lasts, joins, labels, links)),
+    match jobfile::access_of(e) {
+        Access::To { kind, record } => {
+            let r = record as usize;
+            let strand = state.strands - 1;
+            let wrote = asks(places, labels, r, strand);
+            let stood = asks(places, labels, 8192 + r, strand);
+            match races::access(places, kind, r, i, strand, wrote, stood) {
+                Met::First(first) => Turn::Raced { first, record: r },
+                Met::Nothing => Turn::Go(state),
+            }
+        }
+        Access::None => {
+            let m = jobfile::move_of(e);
+            Turn::Go(strands::advance(m, state, lasts, joins, labels, links))
+        }
     }
 }
 
-// What event number `at`, in strand `strand`, meets at its record's places; only an access meets anything.
-fn meet(e: Event, at: usize, strand: usize, places: &mut [u32], labels: &[u64]) -> Met
-    requires { ⌜ Meetable (now places) (now labels) e at strand ⌝ }
-    ensures { λ m. ⌜ Meets (now (places .entry)) (now (labels .entry)) e at strand (now (places .exit)) m ⌝ }
+// Whether the place whose event is at `at` holds an access that is parallel to `strand`, the current one: its Hebrew label is above.
+fn asks(places: &[u32], labels: &[u64], at: usize, strand: usize) -> bool
+    requires { ⌜ Askable (now places) (now labels) at strand ⌝ }
+    ensures { λ r. ⌜ r ≡ heldAbove (now (labels .entry)) (now (places .entry)) at strand ⌝ }
 {
-    match e {
-        Event::Read(r) => races::read(places, labels, r as usize, at, strand),
-        Event::Write(r) => races::write(places, labels, r as usize, at, strand),
-        Event::Spawn => Met::Nothing,
-        Event::End => Met::Nothing,
-        Event::Sync => Met::Nothing,
-    }
+    let other = held_or(wide(places[at + 4096]), strand);
+    labels[4096 + strand] < labels[4096 + other]
 }
 
-// The record of an access, and 0 for any other event.
-fn record_of(e: Event) -> usize
-    ensures { λ r. ⌜ r ≡ recordOf e ⌝ }
+// The strand that a place holds, or `strand` where that is none. The machine picks one without a branch: which places are empty
+// nobody foresees.
+fn held_or(held: usize, strand: usize) -> usize
+    requires { ⌜ strand < 4096 ⌝ }
+    ensures { λ r. ⌜ r ≡ heldOr held strand ⌝ }
+    ensures { λ r. ⌜ r < 4096 ⌝ }
 {
-    match e {
-        Event::Read(r) => r as usize,
-        Event::Write(r) => r as usize,
-        Event::Spawn => 0,
-        Event::End => 0,
-        Event::Sync => 0,
+    if held < 4096 {
+        return held;
     }
+    strand
+}
+
+fn wide(x: u32) -> usize
+    ensures { λ r. ⌜ r ≡ x ⌝ }
+{
+    x as usize
 }

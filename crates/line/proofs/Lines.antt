@@ -5,17 +5,16 @@ use mathlib.Core.List.{List, [], _∷_, map}
 use Rattle.jobfile.specs.Coding.{eventOf}
 use Rattle.jobfile.specs.Trace.{eventAt, tasksAt, begunAt}
 use Rattle.jobfile.specs.Trailer.{wordAt, startsWith, printable, trailerFault, headNamed, headSized, headOf}
-use Rattle.jobfile.specs.Tasks.{taskFault, stepOn, finish, traceFrom}
+use Rattle.jobfile.specs.Tasks.{taskFault, recordFault, stepOn, moveOn, finish, traceFrom}
 use Rattle.jobfile.specs.File.{checkOf}
 use Rattle.relation.specs.Walk.{opened, moveAt, walkFor, walk}
 use Rattle.orders.specs.Order.{insertAfter, differ}
 use Rattle.orders.specs.Model.{ceiling, limit, gapAt, hasRoom, middle, spread, insertLab, insertState, diffs, insertCount}
 use Rattle.strands.specs.Cells.{cells}
 use Rattle.strands.specs.States.{stateAt, countAt}
-use Rattle.races.specs.Search.{any, least, last}
-use Rattle.races.specs.Race.{races, raced}
-use Rattle.races.specs.Places.{standingOf, firstOf}
-use Rattle.races.specs.Verdict.{verdict, stopAt}
+use Rattle.races.specs.Search.{any, least}
+use Rattle.races.specs.Places.{heldOf, firstOf}
+use Rattle.races.specs.Records.{races, raced, racedAny, verdictIn, stopIn}
 use Rattle.judging.specs.Answers.{judgedOf, noRoom, judgeFault, judgeOf}
 use Rattle.line.specs.Text.{ascii, digitsWithin, digitsOf, pairText, kindsText, countsText, nameText, refusalText}
 use Rattle.line.specs.Line.{lineOf}
@@ -66,7 +65,7 @@ pub small-lines : lines (fileL4 ∷ case5 ∷ emptyJob ∷ [] ∷ [])
     ∷ ascii "clean strands 1 english 1 hebrew 1 name \n"
     ∷ ascii "refused 1 event 0\n"
     ∷ [])
-unfolding lineOf digitsWithin pairText kindsText countsText nameText refusalText judgeOf judgeFault noRoom judgedOf checkOf headOf headSized headNamed trailerFault printable startsWith wordAt traceFrom finish stepOn taskFault eventOf eventAt tasksAt begunAt opened moveAt walkFor walk any least last races raced standingOf firstOf verdict stopAt cells stateAt countAt insertAfter differ ceiling limit gapAt hasRoom middle spread insertLab insertState diffs insertCount
+unfolding lineOf digitsWithin pairText kindsText countsText nameText refusalText judgeOf judgeFault noRoom judgedOf checkOf headOf headSized headNamed trailerFault printable startsWith wordAt traceFrom finish stepOn taskFault eventOf eventAt tasksAt begunAt opened moveAt walkFor walk any least races raced heldOf firstOf racedAny verdictIn stopIn cells stateAt countAt insertAfter differ ceiling limit gapAt hasRoom middle spread insertLab insertState diffs insertCount
 small-lines = refl
 
 pub small-numbers : map digitsOf (0 ∷ 9 ∷ 10 ∷ 129 ∷ 4096 ∷ 18446744073709551615 ∷ [])

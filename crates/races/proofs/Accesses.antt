@@ -1,132 +1,175 @@
--- What an access finds in the places: asking a place by the labels is asking whether what it holds is parallel, and each way that the
--- two questions of an access can be answered gives what judging it is to give. Assumes nothing.
+-- What an access gives, for any rules and any layout: each way that the engine's answers can fall gives the access to be named, or the
+-- places one event further. Assumes nothing.
 use mathlib.Core.Path.{_≡_, refl, sym, ap, _∙_}
+use mathlib.Core.Logic.{_⊎_, inl, inr, _≢_}
 use mathlib.Core.List.{List}
-use mathlib.Core.Bool.{Bool, true, false, cond}
+use mathlib.Core.Bool.{Bool, true, false, cond, false≢true, _&&_}
 use mathlib.Core.Option.{Option, none, some}
-use Prim.Native.Nat.{ℕ, suc, _+_, _≤_, _<_}
+use Prim.Native.Nat.{ℕ, suc, _≤_, _<_}
 use native.Mathlib.Omega.{arith}
-use lib.ListN.{getD}
-use borrow.Author.Tests.{lt-ltb, le-ltb}
-use Rattle.jobfile.specs.declared.event.Event.{Event}
-use Rattle.jobfile.specs.declared.event.Event.the-variants.{Read, Write}
-use Rattle.relation.specs.Strand.{strandAt}
-use Rattle.relation.proofs.Strand.{begun-some, begun-rises}
-use Rattle.races.specs.Race.{write, accessOf, recordOf, conflict, secondIn}
-use Rattle.races.specs.Places.{holds, parTo, lastWrite, standing}
-use Rattle.races.specs.Verdict.{clean, race}
+use lib.Dec.{eqb}
+use lib.ListN.{length, getD}
+use borrow.Author.Tests.{eqb-true, eqb-false, eq-eqb, ne-eqb}
+use Rattle.races.specs.Search.{least}
+use Rattle.races.specs.Trace.{Act, other, access, Trace, Lawful, onRecord, isOf, classOf}
+use Rattle.races.specs.Rules.{Rules, Fit}
+use Rattle.races.specs.Places.{holds, stood, parTo, inClass, held, finds, foundClass, firstIn, firstOf, given, found}
+use Rattle.races.specs.Records.{secondOf, stopOf}
+use Rattle.races.specs.Entries.{put, eventOr, strandOr, Layout, Here, Laid, Holding}
+use Rattle.races.specs.Shown.{metOf, Names, NamesNone, shownAt, Shown, Facing, Arriving, Placed}
 use Rattle.races.specs.declared.Met.{Met}
 use Rattle.races.specs.declared.Met.the-variants.{First, Nothing}
-use Rattle.races.specs.Shown.{eventOr, strandOr, Judgeable, Judged, Askable, Answers}
-use Rattle.races.specs.Entries.{heldOr, metIn, put}
-use Rattle.races.proofs.Places.{holds-some, last-write-is, standing-read-is}
-use Rattle.races.proofs.Verdict.{clean-all, read-clean, write-clean, last-write-races, standing-read-races}
-use Rattle.races.proofs.Entries.{put-held}
-use Rattle.races.proofs.Shown.{shown-unique, write-shown, read-shown, read-kept}
+use Rattle.races.proofs.Search.{Least, least-is, least-only}
+use Rattle.races.proofs.Standing.{holds-some}
+use Rattle.races.proofs.Found.{together, of-is, found-by, Finding, finding-first}
+use Rattle.races.proofs.Entries.{holding-same, holding-put}
+use Rattle.races.proofs.Places.{stood-new, stood-last, stood-old, held-next, held-off, stop-none, frozen-stays, racing-stays, clean-follows, elsewhere-stays}
 
-module _
-    {ev : ℕ → Event} {n records : ℕ} {P₀ P L : List ℕ} {e : Event} {r at strand : ℕ}
-    (J : Judgeable ev n records P₀ P L e r at strand) where
-  -- the strand of an event has a label
-  labelled : (m : ℕ) → m ≤ n → strandAt ev m < 4096
-  labelled m l = omega (arith, begun-some ev m, begun-rises ev m n l, J .few)
+guarded : (x a b : Bool) → (x ≡ true → a ≡ b) → (x && a) ≡ (x && b)
+guarded true a b f = f refl
+guarded false a b f = refl
 
-  -- the place whose event is at p shows what o says, an earlier event if any
-  record Shows (p : ℕ) (o : Option ℕ) : Type 0 where
-    earlier : (m : ℕ) → o ≡ some m → m < n
-    its-strand : getD P (p + 4096) 0 ≡ strandOr ev o
+-- an event off a record, and on another class
+pub off-record : (q r b : ℕ) → q ≢ r → onRecord q (access r b) ≡ false
+off-record q r b n = ne-eqb r q (λ e. n (sym e))
 
-  -- what asking it answers
-  met-holds : (p : ℕ) (o : Option ℕ) → Shows p o → metIn L P p strand ≡ holds (parTo ev n) o
-  unfolding metIn heldOr
-  met-holds p none S = rw (S .its-strand) (le-ltb (getD L (4096 + strand) 0) (getD L (4096 + strand) 0) (omega arith))
-  met-holds p (some m) S =
-      let l : m < n = S .earlier m refl in
-      rw (S .its-strand, lt-ltb (strandAt ev m) 4096 (labelled m (omega arith)), J .strand-is) (J .tells m l)
+off-class : (r d b : ℕ) → d ≢ b → isOf r d (access r b) ≡ false
+off-class r d b n = rw (ne-eqb b d (λ e. n (sym e)), eq-eqb r r refl)
 
-  -- the two places of the record
-  shows-write : Shows r (lastWrite ev r n)
-  shows-write =
-      let i : r + 4096 ≡ 4096 + r = omega arith in
-      record {
-        earlier = λ m e. last-write-is ev r n m e .0;
-        its-strand = rw i (J .shown .write-strand r (J .on-record));
-      }
+pub same-or-not : (q r : ℕ) → (q ≡ r) ⊎ (q ≢ r)
+same-or-not q r = go (eqb q r) refl
+  where
+    go : (t : Bool) → eqb q r ≡ t → (q ≡ r) ⊎ (q ≢ r)
+    go true e = inl (eqb-true q r e)
+    go false e = inr (eqb-false q r e)
 
-  shows-read : Shows (8192 + r) (standing ev r n)
-  shows-read =
-      let i : 8192 + r + 4096 ≡ 12288 + r = omega arith in
-      record {
-        earlier = λ m e. standing-read-is ev r n m e .0;
-        its-strand = rw i (J .shown .read-strand r (J .on-record));
-      }
+module _ {R : Rules} {T : Trace} {n r b : ℕ} {told : ℕ → Bool} (F : Facing R T n r b told) where
+  -- the engine's word, class by class
+  finds-told : (c : ℕ) → c < R .classes → finds R T r n c ≡ (R .clash c b && told c)
+  finds-told c h =
+      let e : classOf (T .act n) ≡ b = ap classOf (F .is-access) in
+      rw e (guarded (R .clash c b) (holds (parTo T n) (held R T r c n)) (told c) (λ t. sym (F .tells c h (inl t))))
 
-  last-write-met : metIn L P r strand ≡ holds (parTo ev n) (lastWrite ev r n)
-  last-write-met = met-holds r (lastWrite ev r n) shows-write
+  names-finds : (c : ℕ) → Names R b told c → finds R T r n c ≡ true
+  names-finds c N = finds-told c (N .below) ∙ together (N .clash) (N .parallel)
 
-  standing-read-met : metIn L P (8192 + r) strand ≡ holds (parTo ev n) (standing ev r n)
-  standing-read-met = met-holds (8192 + r) (standing ev r n) shows-read
-
-module _ (P L : List ℕ) (r at strand : ℕ) where
-  -- the last write is parallel: a race with it
-  pub last-write-found : (e : Event) → conflict write (accessOf e) ≡ true → recordOf e ≡ r → metIn L P r strand ≡ true
-      → Answers P L e r at strand P (First (getD P r 0))
-  last-write-found e clash same t ev n records P₀ J =
-      let h = holds-some (parTo ev n) (lastWrite ev r n) (sym (last-write-met J) ∙ t) in
-      let w : getD P r 0 ≡ h .0 = J .shown .write r (J .on-record) ∙ ap eventOr (h .1) in (
-        refl,
-        λ quiet k l. rw w (last-write-races ev r n (h .0) quiet (rw (J .event) clash) (rw (J .event) same) (h .1) (h .2) k l),
+  pub names-first : (c : ℕ) → Names R b told c → (i : ℕ) × (held R T r c n ≡ some i) × (firstOf R T r n ≡ some i)
+  names-first c N =
+      let h = holds-some (parTo T n) (held R T r c n) (sym (F .tells c (N .below) (inl (N .clash))) ∙ N .parallel) in
+      let e : classOf (T .act n) ≡ b = ap classOf (F .is-access) in (
+        h .0,
+        h .1,
+        finding-first R T r n (h .0) (record {
+          class = c;
+          below = N .below;
+          clash = rw e (N .clash);
+          holds = h .1;
+          parallel = h .2;
+          smaller = λ d l. finds-told d (omega (arith, N .below)) ∙ N .smaller d l;
+        }),
       )
 
-  module _ (past : metIn L P r strand ≡ false) where
-    -- a write, and the standing read is parallel: a race with that
-    pub standing-read-found : metIn L P (8192 + r) strand ≡ true → Answers P L (Write r) r at strand P (First (getD P (8192 + r) 0))
-    standing-read-found t ev n records P₀ J =
-        let h = holds-some (parTo ev n) (standing ev r n) (sym (standing-read-met J) ∙ t) in
-        let s : getD P (8192 + r) 0 ≡ h .0 = J .shown .read r (J .on-record) ∙ ap eventOr (h .1) in (
-          refl,
-          λ quiet k l.
-              rw s (standing-read-races ev r n (h .0) quiet (J .event) (sym (last-write-met J) ∙ past) (h .1) (h .2) k l),
-        )
+  pub names-found : (c : ℕ) → Names R b told c → found R T r n ≡ true
+  names-found c N = found-by R T r n b c (F .is-access) (N .below) (names-finds c N)
 
-    -- a write, and neither is
-    pub write-taken : metIn L P (8192 + r) strand ≡ false → Answers P L (Write r) r at strand (put P r at strand) Nothing
-    write-taken f ev n records P₀ J = (
-      λ quiet. write-clean ev r n quiet (J .event) (sym (last-write-met J) ∙ past) (sym (standing-read-met J) ∙ f),
-      write-shown J,
-    )
+  none-first : (o : Option ℕ) → Least (finds R T r n) (R .classes) o → NamesNone R b told → firstIn R T r n o ≡ none
+  none-first none l f = refl
+  none-first (some c) l f = absurd (false≢true (sym (f c (l .0)) ∙ sym (finds-told c (l .0)) ∙ l .1))
 
-    -- a read is clean
-    read-passes : (ev : ℕ → Event) (n records : ℕ) (P₀ : List ℕ) → Judgeable ev n records P₀ P L (Read r) r at strand
-        → secondIn ev n ≡ none → secondIn ev (suc n) ≡ none
-    read-passes ev n records P₀ J quiet = read-clean ev r n quiet (J .event) (sym (last-write-met J) ∙ past)
+  pub names-none : NamesNone R b told → firstOf R T r n ≡ none
+  unfolding firstOf
+  names-none f = none-first (foundClass R T r n) (least-is (finds R T r n) (R .classes)) f
 
-    -- and comes to stand, unless the standing read is parallel
-    pub read-passed : (stands : Bool) → stands ≡ metIn L P (8192 + r) strand
-        → Answers P L (Read r) r at strand (put P (8192 + r) (cond stands (getD P (8192 + r) 0) at) (cond stands (getD P (12288 + r) 0) strand)) Nothing
-    read-passed true t ev n records P₀ J =
-        let i : 12288 + r ≡ 8192 + r + 4096 = omega arith in
-        (read-passes ev n records P₀ J, rw (i, put-held P (8192 + r)) (read-kept J (sym (standing-read-met J) ∙ sym t)))
-    read-passed false f ev n records P₀ J = (read-passes ev n records P₀ J, read-shown J (sym (standing-read-met J) ∙ sym f))
+  pub none-found : NamesNone R b told → found R T r n ≡ false
+  unfolding found
+  none-found f = rw (names-none f) (all-false (onRecord r (T .act n)))
+    where
+      all-false : (x : Bool) → (x && false) ≡ false
+      all-false true = refl
+      all-false false = refl
 
--- while no race has been met, no second answer fits, and no second contents of the places
-pub answer-unique : (P L : List ℕ) (e : Event) (r at strand : ℕ) (A : Askable P L e r at strand) → secondIn (A .ev) (A .n) ≡ none
-    → (P′ P″ : List ℕ) (m m′ : Met) → Answers P L e r at strand P′ m → Answers P L e r at strand P″ m′ → (P′ ≡ P″) × (m ≡ m′)
-answer-unique P L e r at strand A quiet P′ P″ m m′ one other =
-    go m m′ (one (A .ev) (A .n) (A .records) (A .P₀) (A .judgeable)) (other (A .ev) (A .n) (A .records) (A .P₀) (A .judgeable))
-  where
-    go : (m m′ : Met) → Judged (A .ev) (A .n) (A .records) (A .P₀) P P′ r m → Judged (A .ev) (A .n) (A .records) (A .P₀) P P″ r m′
-        → (P′ ≡ P″) × (m ≡ m′)
-    go (First f) (First g) a b =
-        let v : race f (A .n) r ≡ race g (A .n) r = sym (a .1 quiet (suc (A .n)) (omega arith) .0) ∙ b .1 quiet (suc (A .n)) (omega arith) .0 in
-        let same : f ≡ g = cc in
-        (a .0 ∙ sym (b .0), ap First same)
-    go (First f) Nothing a b =
-        let v : race f (A .n) r ≡ clean = sym (a .1 quiet (suc (A .n)) (omega arith) .0) ∙ clean-all (A .ev) (suc (A .n)) (b .0 quiet) .0 in
-        let z : _≡_ {A = ℕ} 0 1 = cc in
-        absurd (omega arith)
-    go Nothing (First g) a b =
-        let v : race g (A .n) r ≡ clean = sym (b .1 quiet (suc (A .n)) (omega arith) .0) ∙ clean-all (A .ev) (suc (A .n)) (a .0 quiet) .0 in
-        let z : _≡_ {A = ℕ} 0 1 = cc in
-        absurd (omega arith)
-    go Nothing Nothing a b = (shown-unique (A .ev) (suc (A .n)) (A .records) (A .P₀) P′ P″ (a .1) (b .1), refl)
+  -- what every place is to hold after the event
+  pub named-stays : (c : ℕ) → Names R b told c → (q d : ℕ) → shownAt R T (suc n) q d ≡ shownAt R T n q d
+  named-stays c N q d = go (same-or-not q r)
+    where
+      go : (q ≡ r) ⊎ (q ≢ r) → shownAt R T (suc n) q d ≡ shownAt R T n q d
+      go (inl e) = rw e (racing-stays R T (F .law) (F .fit) r n (F .unraced) (names-found c N) d)
+      go (inr e) = elsewhere-stays R T (F .law) (F .fit) q n (ap (onRecord q) (F .is-access) ∙ off-record q r b e) d
+
+  -- nothing named: the places of other classes and records are as they were
+  pub others-stay : NamesNone R b told → (q d : ℕ) → ¬ ((q ≡ r) × (d ≡ b)) → shownAt R T (suc n) q d ≡ shownAt R T n q d
+  others-stay f q d z = go (same-or-not q r)
+    where
+      go : (q ≡ r) ⊎ (q ≢ r) → shownAt R T (suc n) q d ≡ shownAt R T n q d
+      go (inl e) =
+          let w = clean-follows R T (F .law) (F .fit) r n (F .unraced) (none-found f) d in
+          let k : d ≢ b = λ x. z (e, x) in
+          rw e (w .0 ∙ held-off R T r d n (ap (isOf r d) (F .is-access) ∙ off-class r d b k) ∙ sym (w .1))
+      go (inr e) = elsewhere-stays R T (F .law) (F .fit) q n (ap (onRecord q) (F .is-access) ∙ off-record q r b e) d
+
+  -- the place of the event's own class
+  own-next : NamesNone R b told → shownAt R T (suc n) r b ≡ stood (R .latest b) (parTo T n) n (held R T r b n)
+  own-next f =
+      let w = clean-follows R T (F .law) (F .fit) r n (F .unraced) (none-found f) b in
+      w .0 ∙ held-next R T r b n ∙ own
+    where
+      own : cond (inClass R T r b n) (stood (R .latest b) (parTo T n) n (held R T r b n)) (held R T r b n)
+          ≡ stood (R .latest b) (parTo T n) n (held R T r b n)
+      own = let t : inClass R T r b n ≡ true = ap (isOf r b) (F .is-access) ∙ of-is r b in rw t
+
+  own-told : told b ≡ holds (parTo T n) (held R T r b n)
+  own-told = F .tells b (F .fit .classed n r b (F .is-access)) (inr refl)
+
+  pub own-taken : NamesNone R b told → (R .latest b ≡ true) ⊎ (told b ≡ false) → shownAt R T (suc n) r b ≡ some n
+  own-taken f (inl t) = own-next f ∙ stood-last (R .latest b) (parTo T n) n (held R T r b n) t
+  own-taken f (inr t) = own-next f ∙ stood-new (R .latest b) (parTo T n) n (held R T r b n) (sym own-told ∙ t)
+
+  pub own-kept : NamesNone R b told → R .latest b ≡ false → told b ≡ true → shownAt R T (suc n) r b ≡ shownAt R T n r b
+  own-kept f t u =
+      let w = clean-follows R T (F .law) (F .fit) r n (F .unraced) (none-found f) b in
+      own-next f ∙ stood-old (R .latest b) (parTo T n) n (held R T r b n) t (sym own-told ∙ u) ∙ sym (w .1)
+
+-- The buffer. `Here` says that the class in question has its place in this one.
+module _ {R : Rules} {Y : Layout} {told : ℕ → Bool} {P : List ℕ} {r b at strand : ℕ} where
+  pub placed-first : (c : ℕ) → c < Y .classes
+      → Names R b told c
+      → Placed R Y told P r b at strand P (First (getD P (Y .spot r c) 0))
+  placed-first c high N T n records P₀ J =
+      let F = J .facing in
+      let w = names-first F c N in
+      let s : stopOf R T r n ≡ n = stop-none R T r n (F .unraced) in
+      let h : Here Y records r c = record { on-record = J .on-record; below = high } in
+      let e : getD P (Y .spot r c) 0 ≡ w .0 = J .shown .event r c h ∙ rw (s, w .1) in
+      (rw (e, w .2), holding-same (J .shown) (shownAt R T (suc n)) (λ q d k. named-stays F c N q d))
+
+  pub placed-put : b < Y .classes → NamesNone R b told
+      → (R .latest b ≡ true) ⊎ (told b ≡ false)
+      → Placed R Y told P r b at strand (put P (Y .spot r b) (Y .gap) at strand) Nothing
+  placed-put high none-named takes T n records P₀ J =
+      let F = J .facing in
+      let h : Here Y records r b = record { on-record = J .on-record; below = high } in (
+        rw (names-none F none-named),
+        rw (J .number, J .strand-is)
+            (holding-put (J .shown) (J .laid) (shownAt R T (suc n)) r b (some n) h (own-taken F none-named takes) (λ q d k z. others-stay F none-named q d z)),
+      )
+
+  -- the access does not come to stand, or has its place in another buffer
+  pub placed-kept : NamesNone R b told
+      → (R .latest b ≡ false) × (told b ≡ true)
+      → Placed R Y told P r b at strand P Nothing
+  placed-kept none-named keeps T n records P₀ J =
+      let F = J .facing in
+      (rw (names-none F none-named), holding-same (J .shown) (shownAt R T (suc n)) (λ q d k. stays F q d (both-or q d)))
+    where
+      both-or : (q d : ℕ) → ((q ≡ r) × (d ≡ b)) ⊎ (¬ ((q ≡ r) × (d ≡ b)))
+      both-or q d = go (same-or-not q r) (same-or-not d b)
+        where
+          go : (q ≡ r) ⊎ (q ≢ r) → (d ≡ b) ⊎ (d ≢ b) → ((q ≡ r) × (d ≡ b)) ⊎ (¬ ((q ≡ r) × (d ≡ b)))
+          go (inl e) (inl f) = inl (e, f)
+          go (inl e) (inr f) = inr (λ z. f (z .1))
+          go (inr e) y = inr (λ z. e (z .0))
+
+      stays : {T : Trace} {n : ℕ} (F : Facing R T n r b told) (q d : ℕ) → ((q ≡ r) × (d ≡ b)) ⊎ (¬ ((q ≡ r) × (d ≡ b)))
+          → shownAt R T (suc n) q d ≡ shownAt R T n q d
+      stays F q d (inl z) = rw (z .0, z .1) (own-kept F none-named (keeps .0) (keeps .1))
+      stays F q d (inr z) = others-stay F none-named q d z

@@ -3,14 +3,17 @@ use mathlib.Core.Path.{_≡_, refl}
 use mathlib.Core.List.{List, [], _∷_, map}
 use Prim.Native.Nat.{ℕ}
 use lib.ListN.{length, getD}
-use Rattle.jobfile.specs.Trace.{tasksAt, begunAt}
+use Rattle.jobfile.specs.Trace.{moves, tasksAt, begunAt}
+use Rattle.jobfile.specs.Events.{accessOf}
 use Rattle.jobfile.specs.declared.event.Event.{Event}
 use Rattle.jobfile.specs.declared.event.Event.the-variants.{Spawn as S, End as E, Sync as J, Read as R, Write as W}
 use Rattle.relation.specs.Walk.{opened, moveAt, walkFor, walk}
-use Rattle.races.specs.Search.{any, least, last}
-use Rattle.races.specs.Race.{races, raced}
-use Rattle.races.specs.Places.{standingOf, firstOf, found}
-use Rattle.races.specs.Verdict.{Verdict, clean, race, verdictOf, verdict, stopAt}
+use Rattle.races.specs.Search.{any, least}
+use Rattle.races.specs.Trace.{Act, recordOf}
+use Rattle.races.specs.Places.{heldOf, firstOf, found}
+use Rattle.races.specs.Records.{Pair, pair, Verdict, clean, race, races, raced, pairOf, racedAny, verdictAt, verdictIn, stopIn}
+use Rattle.races.specs.Mark.{actOf, rules, traceOf}
+use Rattle.races.specs.Named.{verdict, stopAt}
 
 -- a list as a trace; what stands behind its end is never asked
 abbrev pub listed : List Event → ℕ → Event
@@ -23,7 +26,7 @@ pub record Answer : Type 0 where
 abbrev pub judged : List Event → Answer
 judged events = record {
   answer = verdict (listed events) (length events);
-  strands = begunAt (listed events) (stopAt (listed events) (length events));
+  strands = begunAt (moves (listed events)) (stopAt (listed events) (length events));
 }
 
 -- the starred cases, 1 to 10
@@ -56,7 +59,7 @@ answers =
     ∷ []
 
 pub starred-cases : map judged cases ≡ answers
-unfolding tasksAt begunAt opened moveAt walkFor walk any least last races raced standingOf firstOf verdict stopAt
+unfolding tasksAt begunAt opened moveAt walkFor walk any least races raced heldOf firstOf racedAny verdictIn stopIn
 starred-cases = refl
 
 -- Small jobs that a slip in a rule would answer otherwise, judged by trying every pair and by asking the two places.
@@ -64,7 +67,9 @@ abbrev byPairs : List Event → Verdict
 byPairs events = verdict (listed events) (length events)
 
 abbrev byPlaces : List Event → Verdict
-byPlaces events = verdictOf (listed events) (least (found (listed events)) (length events))
+byPlaces events =
+    verdictAt rules (traceOf (listed events))
+    (least (λ j. found rules (traceOf (listed events)) (recordOf (actOf (accessOf (listed events j)))) j) (length events))
 
 abbrev near : List (List Event)
 near =
@@ -82,9 +87,18 @@ abbrev near-verdicts : List Verdict
 near-verdicts = race 2 4 0 ∷ race 1 3 0 ∷ clean ∷ clean ∷ race 1 4 0 ∷ race 1 3 0 ∷ race 2 4 0 ∷ []
 
 pub near-pairs : map byPairs near ≡ near-verdicts
-unfolding tasksAt opened moveAt walkFor walk any least last races raced standingOf firstOf verdict
+unfolding tasksAt opened moveAt walkFor walk any least races raced heldOf firstOf racedAny verdictIn
 near-pairs = refl
 
 pub near-places : map byPlaces near ≡ near-verdicts
-unfolding tasksAt opened moveAt walkFor walk any least last standingOf firstOf found
+unfolding tasksAt opened moveAt walkFor walk any least heldOf firstOf found
 near-places = refl
+
+-- S W1 W0 E W1 W0: each of two records has its own pair, and the earlier second is the one of the trace
+abbrev two-records : List Event
+two-records = S ∷ W 1 ∷ W 0 ∷ E ∷ W 1 ∷ W 0 ∷ []
+
+pub own-pairs : (pairOf rules (traceOf (listed two-records)) 0 6 ≡ pair 2 5) × (pairOf rules (traceOf (listed two-records)) 1 6 ≡ pair 1 4)
+    × (byPairs two-records ≡ race 1 4 1)
+unfolding tasksAt opened moveAt walkFor walk any least races raced heldOf firstOf pairOf racedAny verdictIn
+own-pairs = (refl, refl, refl)

@@ -1,11 +1,11 @@
--- What the three searches below a number find. Assumes nothing.
+-- What the searches below a number find. Assumes nothing.
 use mathlib.Core.Path.{_≡_, refl, sym, _∙_}
 use mathlib.Core.Bool.{Bool, true, false, cond, false≢true, _||_}
 use mathlib.Core.Option.{Option, none, some}
 use Prim.Native.Nat.{ℕ, zero, suc, _≤_, _<_}
 use native.Mathlib.Omega.{arith}
 use native.Mathlib.Decide.{decLe}
-use Rattle.races.specs.Search.{any, orHere, least, last}
+use Rattle.races.specs.Search.{any, orHere, least}
 
 -- one more number below n
 pub below : (P : ℕ → Type 0) (n : ℕ) → ((m : ℕ) → m < n → P m) → P n → (m : ℕ) → m < suc n → P m
@@ -75,19 +75,3 @@ module _ (test : ℕ → Bool) where
       go (yes a) (yes b) = let e : i ≡ j = omega arith in rw e
       go (yes a) (no b) = absurd (false≢true (sym (g .2 i (omega arith)) ∙ f .1))
       go (no a) b = absurd (false≢true (sym (f .2 j (omega arith)) ∙ g .1))
-
-  -- what it means that o is the greatest number below n that passes
-  abbrev pub Last : ℕ → Option ℕ → Type 0
-  Last n none = (m : ℕ) → m < n → test m ≡ false
-  Last n (some w) = (w < n) × (test w ≡ true) × ((m : ℕ) → m < n → test m ≡ true → m ≤ w)
-
-  last-step : (n : ℕ) (o : Option ℕ) (b : Bool) → test n ≡ b → Last n o → Last (suc n) (cond b (some n) o)
-  last-step n o true e l = (omega arith, e, λ m mn z. omega arith)
-  last-step n none false e l = below (λ m. test m ≡ false) n l e
-  last-step n (some w) false e l =
-      (omega arith, l .1, below (λ m. test m ≡ true → m ≤ w) n (l .2) (λ z. absurd (false≢true (sym e ∙ z))))
-
-  pub last-is : (n : ℕ) → Last n (last test n)
-  unfolding last
-  last-is zero = λ m l. absurd (omega arith)
-  last-is (suc n) = last-step n (last test n) (test n) refl (last-is n)

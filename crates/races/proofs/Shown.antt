@@ -1,184 +1,97 @@
--- The places show the events before n (`Shown`): so they do before any event once they are emptied, and what an access that does not
--- race puts there makes them show one event more. The four entries of each record are two rows (`Row`). Assumes nothing.
-use mathlib.Core.Path.{_≡_, refl, sym, _∙_}
-use mathlib.Core.Logic.{_⊎_, inl, inr, ⊎-elim, _≢_}
+-- The buffer from event to event, for whoever runs over a trace: at the start, past an event that is no access, past an access of a record
+-- that has raced; what the engine reads in it; and that no second contents fit. Assumes nothing.
+use mathlib.Core.Path.{_≡_, refl, sym, ap, _∙_}
+use mathlib.Core.Logic.{_⊎_, inl, inr, _≢_}
 use mathlib.Core.List.{List}
-use mathlib.Core.Bool.{Bool, true, false, false≢true}
+use mathlib.Core.Bool.{Bool, true, false}
 use mathlib.Core.Option.{Option, none, some}
-use Prim.Native.Nat.{ℕ, suc, _+_, _-_, _≤_, _<_}
-use native.Mathlib.Nat.{zero-add}
+use Prim.Native.Nat.{ℕ, suc, _+_, _<_}
 use native.Mathlib.Omega.{arith}
-use native.Mathlib.Decide.{decLe, decLt}
-use lib.Dec.{eqb}
-use lib.ListN.{length, getD}
-use lib.Seq.{ext-getD}
-use borrow.Author.Tests.{eqb-true, eqb-false}
-use Rattle.jobfile.specs.declared.event.Event.{Event}
-use Rattle.jobfile.specs.declared.event.Event.the-variants.{Read, Write}
-use Rattle.relation.specs.Strand.{strandAt}
-use Rattle.races.specs.Race.{other, accessOf}
-use Rattle.races.specs.Places.{holds, stood, parTo, lastWrite, standing}
-use Rattle.races.specs.Shown.{Shown, Judgeable}
-use Rattle.races.specs.Entries.{put, Emptied}
-use Rattle.races.proofs.Places.{Kept, last-write-next, standing-next, other-keeps, elsewhere-keeps, write-takes, read-takes, no-write-yet, no-read-yet}
-use Rattle.races.proofs.Entries.{put-length, put-other, Row, row-put, row-apart, row-same}
+use lib.ListN.{getD}
+use Rattle.races.specs.Trace.{Act, other, access, Trace, Lawful, onRecord}
+use Rattle.races.specs.Rules.{Rules, Fit}
+use Rattle.races.specs.Places.{holds, parTo, held, inClass, firstOf, found}
+use Rattle.races.specs.Records.{secondOf}
+use Rattle.races.specs.Entries.{strandOr, Layout, Here, Holding}
+use Rattle.races.specs.Shown.{metOf, shownAt, Shown, Facing, Placeable, Placed}
+use Rattle.races.specs.declared.Met.{Met}
+use Rattle.races.specs.declared.Met.the-variants.{First, Nothing}
+use Rattle.races.proofs.Standing.{held-below}
+use Rattle.races.proofs.Found.{found-none, found-some}
+use Rattle.races.proofs.Entries.{holding-same, holding-unique}
+use Rattle.races.proofs.Places.{held-start, none-yet, stop-none, frozen-stays, racing-stays, elsewhere-stays, clean-on, race-on}
+use Rattle.races.proofs.Accesses.{off-record, same-or-not}
 
--- a read comes to stand just where nothing parallel to it stands
-stood-new : (test : ℕ → Bool) (n : ℕ) (o : Option ℕ) → holds test o ≡ false → stood test n o ≡ some n
-stood-new test n none f = refl
-stood-new test n (some s) f = rw f
+-- what the record's second becomes with event n
+abbrev pub secondAfter : ℕ → Option ℕ → Option ℕ
+secondAfter n none = none
+secondAfter n (some f) = some n
 
-stood-old : (test : ℕ → Bool) (n : ℕ) (o : Option ℕ) → holds test o ≡ true → stood test n o ≡ o
-stood-old test n none t = absurd (false≢true t)
-stood-old test n (some s) t = rw t
+module _ (R : Rules) (T : Trace) (Y : Layout) (records : ℕ) (P₀ : List ℕ) where
+  -- emptied places show that nothing has happened
+  pub shown-start : (P : List ℕ) → Holding Y (T .strand) records P₀ (λ r c. none) P → Shown R T Y 0 records P₀ P
+  shown-start P H = holding-same H (shownAt R T 0) (λ r c h. rw (stop-none R T r 0 (none-yet R T r)) (held-start R T r c))
 
--- entry i is some record's, or no record's, among the entries that begin at `from`
-abbrev Of : ℕ → ℕ → ℕ → Type 0
-Of from records i = (r : ℕ) × (r < records) × (i ≡ from + r)
+  pub shown-unique : (n : ℕ) (P Q : List ℕ) → Shown R T Y n records P₀ P → Shown R T Y n records P₀ Q → P ≡ Q
+  shown-unique n P Q G H = holding-unique Y (T .strand) records P₀ P Q (shownAt R T n) G H
 
-abbrev Off : ℕ → ℕ → ℕ → Type 0
-Off from records i = (r : ℕ) → r < records → i ≢ from + r
+  module _ (law : Lawful T) (fit : Fit R T) (n : ℕ) (P : List ℕ) (S : Shown R T Y n records P₀ P) where
+    -- an event that is no access
+    pub shown-other : T .act n ≡ other → Shown R T Y (suc n) records P₀ P
+    shown-other e = holding-same S (shownAt R T (suc n)) (λ r c h. elsewhere-stays R T law fit r n (ap (onRecord r) e) c)
 
-within : (from records i : ℕ) → Of from records i ⊎ Off from records i
-within from records i = go (decLe from i) (decLt (i - from) records)
-  where
-    go : Dec (from ≤ i) → Dec (i - from < records) → Of from records i ⊎ Off from records i
-    go (yes a) (yes b) = inl (i - from, b, omega arith)
-    go (yes a) (no b) = inr (λ r l e. omega arith)
-    go (no a) (yes b) = inr (λ r l e. omega arith)
-    go (no a) (no b) = inr (λ r l e. omega arith)
-
-module _ (ev : ℕ → Event) where
-  -- entry i is no record's
-  abbrev Outside : ℕ → ℕ → Type 0
-  Outside records i = (r : ℕ) → r < records → (i ≢ r) × (i ≢ 4096 + r) × (i ≢ 8192 + r) × (i ≢ 12288 + r)
-
-  -- what the two rows hold just before event n
-  abbrev writesAt : ℕ → ℕ → Option ℕ
-  writesAt n q = lastWrite ev q n
-
-  abbrev readsAt : ℕ → ℕ → Option ℕ
-  readsAt n q = standing ev q n
-
-  module _ (n records : ℕ) (P₀ P : List ℕ) where
-    shown-writes : Shown ev n records P₀ P → Row ev 0 records (writesAt n) P
-    shown-writes S = record { event = λ q l. rw zero-add (S .write q l); strand = S .write-strand }
-
-    shown-reads : Shown ev n records P₀ P → Row ev 8192 records (readsAt n) P
-    shown-reads S = record { event = S .read; strand = S .read-strand }
-
-    rows-shown : Row ev 0 records (writesAt n) P → Row ev 8192 records (readsAt n) P
-        → ((i : ℕ) → Outside records i → getD P i 0 ≡ getD P₀ i 0) → length P ≡ length P₀ → Shown ev n records P₀ P
-    rows-shown writes reads others size = record {
-      write = λ r l. rw zero-add at (writes .event r l);
-      write-strand = writes .strand;
-      read = reads .event;
-      read-strand = reads .strand;
-      others = others;
-      size = size;
-    }
-
-  -- what the places show is all there is to them: no second contents fit
-  pub shown-unique : (n records : ℕ) (P₀ P Q : List ℕ) → Shown ev n records P₀ P → Shown ev n records P₀ Q → P ≡ Q
-  shown-unique n records P₀ P Q S T = ext-getD 0 P Q (S .size ∙ sym (T .size)) (λ i l. same i)
-    where
-      same : (i : ℕ) → getD P i 0 ≡ getD Q i 0
-      same i =
-          ⊎-elim
-          (λ (w : Of 0 records i). let e : i ≡ w .0 = omega (arith, w .2) in rw e (S .write (w .0) (w .1) ∙ sym (T .write (w .0) (w .1))))
-          (λ (a : Off 0 records i).
-          ⊎-elim
-          (λ (w : Of 4096 records i). rw (w .2) (S .write-strand (w .0) (w .1) ∙ sym (T .write-strand (w .0) (w .1))))
-          (λ (b : Off 4096 records i).
-          ⊎-elim
-          (λ (w : Of 8192 records i). rw (w .2) (S .read (w .0) (w .1) ∙ sym (T .read (w .0) (w .1))))
-          (λ (c : Off 8192 records i).
-          ⊎-elim
-          (λ (w : Of 12288 records i). rw (w .2) (S .read-strand (w .0) (w .1) ∙ sym (T .read-strand (w .0) (w .1))))
-          (λ (d : Off 12288 records i).
-          let out : Outside records i = λ r l. (rw zero-add at (a r l), b r l, c r l, d r l) in
-          S .others i out ∙ sym (T .others i out))
-          (within 12288 records i))
-          (within 8192 records i))
-          (within 4096 records i))
-          (within 0 records i)
-
-  -- emptied places show that no event has happened
-  pub all-emptied : (records : ℕ) (P P₁ P₂ P₃ P₄ : List ℕ) → records ≤ 4096 → Emptied 0 records P P₁ → Emptied 4096 records P₁ P₂
-      → Emptied 8192 records P₂ P₃ → Emptied 12288 records P₃ P₄ → Shown ev 0 records P P₄
-  all-emptied records P P₁ P₂ P₃ P₄ few A B C D = record {
-    write = λ r l.
-        rw (no-write-yet ev r) (D .others r (λ q m e. omega arith) ∙ C .others r (λ q m e. omega arith) ∙ B .others r (λ q m e. omega arith)
-        ∙ (rw zero-add at (A .none r l)));
-    write-strand = λ r l. rw (no-write-yet ev r) (D .others (4096 + r) (λ q m e. omega arith) ∙ C .others (4096 + r) (λ q m e. omega arith) ∙ B .none r l);
-    read = λ r l. rw (no-read-yet ev r) (D .others (8192 + r) (λ q m e. omega arith) ∙ C .none r l);
-    read-strand = λ r l. rw (no-read-yet ev r) (D .none r l);
-    others = λ i out.
-        D .others i (λ q m. out q m .3) ∙ C .others i (λ q m. out q m .2) ∙ B .others i (λ q m. out q m .1)
-        ∙ A .others i (λ q m e. out q m .0 (rw zero-add at e));
-    size = D .size ∙ C .size ∙ B .size ∙ A .size;
-  }
-
-  -- one place is put: the entries of no record stay, and so does the length
-  put-shown : (n records : ℕ) (P₀ P : List ℕ) (p event strand : ℕ) → Shown ev n records P₀ P
-      → ((i : ℕ) → Outside records i → (i ≢ p) × (i ≢ p + 4096))
-      → Row ev 0 records (writesAt (suc n)) (put P p event strand) → Row ev 8192 records (readsAt (suc n)) (put P p event strand)
-      → Shown ev (suc n) records P₀ (put P p event strand)
-  put-shown n records P₀ P p event strand S inside writes reads =
-      rows-shown (suc n) records P₀ (put P p event strand) writes reads
-      (λ i o. put-other P p event strand i (inside i o .0) (inside i o .1) ∙ S .others i o) (put-length P p event strand ∙ S .size)
-
-  -- what the places are to hold is what they held
-  kept-shown : (n records : ℕ) (P₀ P : List ℕ) → ((q : ℕ) → Kept ev q n) → Shown ev n records P₀ P → Shown ev (suc n) records P₀ P
-  kept-shown n records P₀ P kept S =
-      rows-shown (suc n) records P₀ P
-      (row-same ev 0 records (writesAt n) P (shown-writes n records P₀ P S) (writesAt (suc n)) (λ q. kept q .same-write))
-      (row-same ev 8192 records (readsAt n) P (shown-reads n records P₀ P S) (readsAt (suc n)) (λ q. kept q .same-read)) (S .others) (S .size)
-
-  -- an event that is no access leaves the places as they are
-  pub other-shown : (n records : ℕ) (P₀ P : List ℕ) → accessOf (ev n) ≡ other → Shown ev n records P₀ P → Shown ev (suc n) records P₀ P
-  other-shown n records P₀ P e S = kept-shown n records P₀ P (λ q. other-keeps ev q n e) S
-
--- An access that may be judged, and does not race: what it makes of the places.
-module _ {ev : ℕ → Event} {n records : ℕ} {P₀ P L : List ℕ} {r at strand : ℕ} where
-  -- a write becomes the last one
-  pub write-shown : Judgeable ev n records P₀ P L (Write r) r at strand → Shown ev (suc n) records P₀ (put P r at strand)
-  write-shown J =
-      let writes = shown-writes ev n records P₀ P (J .shown) in
-      let reads = row-apart ev 8192 records (readsAt ev n) P (shown-reads ev n records P₀ P (J .shown)) r n (strandAt ev n)
-      (λ q l. (omega arith, omega arith, omega arith, omega arith))
-      in
-      rw (J .number, J .strand-is)
-      (put-shown ev n records P₀ P r n (strandAt ev n) (J .shown) (λ i o. let d = o r (J .on-record) in (d .0, omega arith))
-      (rw zero-add at (row-put ev 0 records (writesAt ev n) P writes r records (writesAt ev (suc n)) (some n)
-      (write-takes ev r n (J .event) .0) (λ q l d. (l, elsewhere-keeps ev q n (λ e. d (sym (rw (J .event) at e))) .same-write))
-      (omega arith) (J .records-fit) (omega arith)))
-      (row-same ev 8192 records (readsAt ev n) (put P r n (strandAt ev n)) reads (readsAt ev (suc n)) (λ q. standing-next ev q n ∙ rw (J .event))))
-
-  module _ (J : Judgeable ev n records P₀ P L (Read r) r at strand) where
-    same-writes : (q : ℕ) → lastWrite ev q (suc n) ≡ lastWrite ev q n
-    same-writes q = last-write-next ev q n ∙ rw (J .event)
-
-    -- a read comes to stand where nothing parallel to it does
-    pub read-shown : holds (parTo ev n) (standing ev r n) ≡ false → Shown ev (suc n) records P₀ (put P (8192 + r) at strand)
-    read-shown f =
-        let reads = shown-reads ev n records P₀ P (J .shown) in
-        let writes = row-apart ev 0 records (writesAt ev n) P (shown-writes ev n records P₀ P (J .shown)) (8192 + r) n (strandAt ev n)
-        (λ q l. (omega arith, omega arith, omega arith, omega arith))
-        in
-        rw (J .number, J .strand-is)
-        (put-shown ev n records P₀ P (8192 + r) n (strandAt ev n) (J .shown) (λ i o. let d = o r (J .on-record) in (d .2, omega arith))
-        (row-same ev 0 records (writesAt ev n) (put P (8192 + r) n (strandAt ev n)) writes (writesAt ev (suc n)) same-writes)
-        (row-put ev 8192 records (readsAt ev n) P reads r records (readsAt ev (suc n)) (some n)
-        (read-takes ev r n (J .event) .1 ∙ stood-new (parTo ev n) n (standing ev r n) f)
-        (λ q l d. (l, elsewhere-keeps ev q n (λ e. d (sym (rw (J .event) at e))) .same-read)) (omega arith) (J .records-fit) (omega arith)))
-
-    -- and changes nothing where the standing read is parallel to it
-    pub read-kept : holds (parTo ev n) (standing ev r n) ≡ true → Shown ev (suc n) records P₀ P
-    read-kept t = kept-shown ev n records P₀ P (λ q. record { same-write = same-writes q; same-read = same q (eqb r q) refl }) (J .shown)
+    -- "A record's places freeze at its race"
+    pub shown-frozen : (r b j : ℕ) → T .act n ≡ access r b → secondOf R T r n ≡ some j → Shown R T Y (suc n) records P₀ P
+    shown-frozen r b j e f = holding-same S (shownAt R T (suc n)) (λ q c h. go q c (same-or-not q r))
       where
-        same : (q : ℕ) (c : Bool) → eqb r q ≡ c → standing ev q (suc n) ≡ standing ev q n
-        same q true e =
-            let i : r ≡ q = eqb-true r q e in
-            rw i at (read-takes ev r n (J .event) .1 ∙ stood-old (parTo ev n) n (standing ev r n) t)
-        same q false e = elsewhere-keeps ev q n (rw (J .event) (eqb-false r q e)) .same-read
+        go : (q c : ℕ) → (q ≡ r) ⊎ (q ≢ r) → shownAt R T (suc n) q c ≡ shownAt R T n q c
+        go q c (inl z) = rw z (frozen-stays R T law fit r n j f c)
+        go q c (inr z) = elsewhere-stays R T law fit q n (ap (onRecord q) e ∙ off-record q r b z) c
+
+  -- What an engine reads in a place of a record that has not raced: the strand of what it holds, or none. If it can say of every earlier
+  -- event's strand whether that event is parallel to event n, and says no of none, it can say so of the place.
+  pub told-by : Lawful T → (n : ℕ) (P : List ℕ) → Shown R T Y n records P₀ P → (r c : ℕ) → Here Y records r c → secondOf R T r n ≡ none
+      → (ask : ℕ → Bool) → ask 4294967295 ≡ false → ((m : ℕ) → m < n → ask (T .strand m) ≡ T .par m n)
+      → ask (getD P (Y .spot r c + Y .gap) 0) ≡ holds (parTo T n) (held R T r c n)
+  told-by law n P S r c h e ask empty tells = rw (S .its-strand r c h, stop-none R T r n e) (go (held R T r c n) refl)
+    where
+      go : (o : Option ℕ) → held R T r c n ≡ o → ask (strandOr (T .strand) o) ≡ holds (parTo T n) o
+      go none f = empty
+      go (some m) f = tells m (held-below T law (inClass R T r c) (R .latest c) n m f .0)
+
+-- the record's second after an access of it: this event if it found something, and otherwise still none
+pub second-after : {R : Rules} {T : Trace} {n r b : ℕ} {told : ℕ → Bool} → Facing R T n r b told
+    → secondOf R T r (suc n) ≡ secondAfter n (firstOf R T r n)
+second-after {R = R} {T = T} {n = n} {r = r} {b = b} F = go (firstOf R T r n) refl
+  where
+    go : (o : Option ℕ) → firstOf R T r n ≡ o → secondOf R T r (suc n) ≡ secondAfter n o
+    go none e = clean-on R T (F .law) (F .fit) r n (F .unraced) (found-none R T r n e)
+    go (some f) e = race-on R T (F .law) (F .fit) r n (F .unraced) (found-some R T r n b f (F .is-access) e)
+
+-- "The racing access itself changes no place": what the places show behind it they showed before it
+pub shown-racing : {R : Rules} {T : Trace} {Y : Layout} {n r b records : ℕ} {P₀ P : List ℕ} {told : ℕ → Bool} → Facing R T n r b told
+    → (f : ℕ) → firstOf R T r n ≡ some f → Shown R T Y (suc n) records P₀ P → Shown R T Y n records P₀ P
+shown-racing {R = R} {T = T} {n = n} {r = r} {b = b} F f e S =
+    holding-same S (shownAt R T n) (λ q c h. sym (go q c (same-or-not q r)))
+  where
+    go : (q c : ℕ) → (q ≡ r) ⊎ (q ≢ r) → shownAt R T (suc n) q c ≡ shownAt R T n q c
+    go q c (inl z) = rw z (racing-stays R T (F .law) (F .fit) r n (F .unraced) (found-some R T r n b f (F .is-access) e) c)
+    go q c (inr z) = elsewhere-stays R T (F .law) (F .fit) q n (ap (onRecord q) (F .is-access) ∙ off-record q r b z) c
+
+-- what was met is what the rules name
+pub first-met : (o : Option ℕ) (f : ℕ) → First f ≡ metOf o → o ≡ some f
+first-met none f e = absurd (let z : _≡_ {A = ℕ} 0 1 = cc in omega arith)
+first-met (some g) f e = let z : f ≡ g = cc in rw z
+
+pub nothing-met : (o : Option ℕ) → Nothing ≡ metOf o → o ≡ none
+nothing-met none e = refl
+nothing-met (some g) e = absurd (let z : _≡_ {A = ℕ} 0 1 = cc in omega arith)
+
+-- no second answer and no second contents fit the contract of an access
+pub placed-once : (R : Rules) (Y : Layout) (told : ℕ → Bool) (P : List ℕ) (r b at strand : ℕ) (P′ P″ : List ℕ) (met met′ : Met)
+    → Placeable R Y told P r b at strand → Placed R Y told P r b at strand P′ met → Placed R Y told P r b at strand P″ met′
+    → (P′ ≡ P″) × (met ≡ met′)
+placed-once R Y told P r b at strand P′ P″ met met′ K A B =
+    let x = A (K .T) (K .n) (K .records) (K .P₀) (K .arriving) in
+    let y = B (K .T) (K .n) (K .records) (K .P₀) (K .arriving) in
+    (shown-unique R (K .T) Y (K .records) (K .P₀) (suc (K .n)) P′ P″ (x .1) (y .1), x .0 ∙ sym (y .0))

@@ -1,33 +1,53 @@
--- One place in the lent places: its event stands at some entry, and its strand 4,096 entries on. How it is asked, and how it is set.
+-- The places in a lent buffer: the event that a place holds stands at some entry, and its strand a gap further on.
 use mathlib.Core.Path.{_≡_}
 use mathlib.Core.Logic.{_≢_}
 use mathlib.Core.List.{List}
-use mathlib.Core.Bool.{Bool, cond}
-use Prim.Native.Nat.{ℕ, _+_, _<_, _≤_}
+use mathlib.Core.Option.{Option, none, some}
+use Prim.Native.Nat.{ℕ, zero, suc, _+_, _<_}
 use lib.ListN.{length, getD, set}
-use lib.Dec.{ltb}
-
--- the strand that a place holds, or the one given where that is none: "4,294,967,295 is none, for an event and its strand alike"
-unfoldable pub heldOr : ℕ → ℕ → ℕ
-heldOr held strand = cond (ltb held 4096) held strand
-
--- by the Hebrew labels the access that the place holds is parallel to the strand asked for; a place that holds none is asked with that
--- strand itself, to which it is not
-unfoldable pub metIn : List ℕ → List ℕ → ℕ → ℕ → Bool
-metIn L P at strand = ltb (getD L (4096 + strand) 0) (getD L (4096 + heldOr (getD P (at + 4096) 0) strand) 0)
 
 -- the place with an event and its strand put there
-unfoldable pub put : List ℕ → ℕ → ℕ → ℕ → List ℕ
-put P at event strand = set (set P at event) (at + 4096) strand
+unfoldable pub put : List ℕ → ℕ → ℕ → ℕ → ℕ → List ℕ
+put P at gap event strand = set (set P at event) (at + gap) strand
 
--- n entries from one on are none, and every other one is as it was
-pub record Emptied (from n : ℕ) (P P′ : List ℕ) : Type 0 where
-  pub none : (r : ℕ) → r < n → getD P′ (from + r) 0 ≡ 4294967295
-  pub others : (i : ℕ) → ((r : ℕ) → r < n → i ≢ from + r) → getD P′ i 0 ≡ getD P i 0
-  pub size : length P′ ≡ length P
+-- so many entries from one on set to none
+unfoldable pub filled : List ℕ → ℕ → ℕ → List ℕ
+filled P from zero = P
+filled P from (suc k) = set (filled P from k) (from + k) 4294967295
 
--- the place may be asked: its entries are there, and so are the labels of all strands
-pub record Place (P L : List ℕ) (at strand : ℕ) : Type 0 where
-  pub inside : at + 4096 < length P
-  pub labels : 8192 ≤ length L
-  pub begun : strand < 4096
+-- "4,294,967,295 is none, for an event and its strand alike"
+abbrev pub eventOr : Option ℕ → ℕ
+eventOr none = 4294967295
+eventOr (some m) = m
+
+abbrev pub strandOr : (ℕ → ℕ) → Option ℕ → ℕ
+strandOr strand none = 4294967295
+strandOr strand (some m) = strand m
+
+-- Where a buffer has the places of so many classes: of record r and class c the event at `spot r c`, the strand `gap` further on.
+pub record Layout : Type 0 where
+  pub spot : ℕ → ℕ → ℕ
+  pub gap : ℕ
+  pub classes : ℕ
+
+pub record Here (Y : Layout) (records r c : ℕ) : Type 0 where
+  pub on-record : r < records
+  pub below : c < Y .classes
+
+-- the places of that many records are inside a buffer of that size, and no two share an entry
+pub record Laid (Y : Layout) (records size : ℕ) : Type 0 where
+  pub room : (r c : ℕ) → Here Y records r c → Y .spot r c + Y .gap < size
+  pub apart : (r c q d : ℕ) → Here Y records r c → Here Y records q d → Y .spot r c ≡ Y .spot q d → (r ≡ q) × (c ≡ d)
+  pub strands-apart : (r c q d : ℕ) → Here Y records r c → Here Y records q d → Y .spot r c ≢ Y .spot q d + Y .gap
+
+-- A buffer P that was lent as P₀ has what `what` says in the places. "Entries [..] of records at or over the record count, and past the
+-- lengths above keep what they had."
+pub record Holding (Y : Layout) (strand : ℕ → ℕ) (records : ℕ) (P₀ : List ℕ) (what : ℕ → ℕ → Option ℕ) (P : List ℕ) : Type 0 where
+  pub event : (r c : ℕ) → Here Y records r c → getD P (Y .spot r c) 0 ≡ eventOr (what r c)
+  pub its-strand : (r c : ℕ) → Here Y records r c → getD P (Y .spot r c + Y .gap) 0 ≡ strandOr strand (what r c)
+  pub others : (i : ℕ) → ((r c : ℕ) → Here Y records r c → (i ≢ Y .spot r c) × (i ≢ Y .spot r c + Y .gap)) → getD P i 0 ≡ getD P₀ i 0
+  pub size : length P ≡ length P₀
+
+-- no place holds anything, whatever the strands are
+abbrev pub Empty : Layout → ℕ → List ℕ → List ℕ → Type 0
+Empty Y records P₀ P = (strand : ℕ → ℕ) → Holding Y strand records P₀ (λ r c. none) P

@@ -1,6 +1,10 @@
 pub mod Search
-pub mod Race
+pub mod Trace
+pub mod Rules
 pub mod Places
-pub mod Verdict
-pub mod Shown
+pub mod Records
 pub mod Entries
+pub mod Shown
+pub mod Mark
+pub mod Race
+pub mod Named

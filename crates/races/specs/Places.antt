@@ -1,69 +1,62 @@
--- The two places of a record, the last write and the standing read, and what they say of an access.
+-- What the places of a record hold, one for each class, and which of them an access finds.
+use mathlib.Core.Path.{_≡_}
+use mathlib.Core.Bool.{Bool, true, false, cond, _&&_}
+use mathlib.Core.Option.{Option, none, some}
 use Prim.Native.Nat.{ℕ, zero, suc}
-use mathlib.Core.Bool.{Bool, true, false, cond, _&&_, _||_}
-use mathlib.Core.Option.{Option, none, some, Option·getD}
-use lib.Dec.{eqb}
-use Rattle.jobfile.specs.declared.event.Event.{Event}
-use Rattle.relation.specs.Walk.{par}
-use Rattle.races.specs.Search.{last}
-use Rattle.races.specs.Race.{Access, other, read, write, accessOf, recordOf, conflict}
-
-abbrev pub isRead : Access → Bool
-isRead other = false
-isRead read = true
-isRead write = false
-
-abbrev pub isWrite : Access → Bool
-isWrite other = false
-isWrite read = false
-isWrite write = true
+use Rattle.races.specs.Search.{least}
+use Rattle.races.specs.Trace.{Act, Trace, isOf, onRecord, classOf}
+use Rattle.races.specs.Rules.{Rules}
 
 -- what a place holds passes; an empty place does not
 abbrev pub holds : (ℕ → Bool) → Option ℕ → Bool
 holds test none = false
 holds test (some m) = test m
 
--- "The first [..] stands; a later [one] takes its place exactly if the standing one is before it": event n, and whether what
--- stands is parallel to it
-abbrev pub stood : (ℕ → Bool) → ℕ → Option ℕ → Option ℕ
-stood parallel n none = some n
-stood parallel n (some s) = cond (parallel s) (some s) (some n)
+-- it holds something
+abbrev pub given : Option ℕ → Bool
+given none = false
+given (some m) = true
 
-module _ (ev : ℕ → Event) where
+-- "The first [..] stands; a later [one] takes its place exactly if the standing one is before it"; where the last one is kept, always
+abbrev pub stood : Bool → (ℕ → Bool) → ℕ → Option ℕ → Option ℕ
+stood latest parallel n none = some n
+stood true parallel n (some s) = some n
+stood false parallel n (some s) = cond (parallel s) (some s) (some n)
+
+module _ (T : Trace) where
   -- m is parallel to event j
   abbrev pub parTo : ℕ → ℕ → Bool
-  parTo j m = par ev m j
+  parTo j m = T .par m j
 
-  -- which of the events of a class stands just before event n
-  unfoldable pub standingOf : (ℕ → Bool) → ℕ → Option ℕ
-  standingOf class zero = none
-  standingOf class (suc n) = cond (class n) (stood (parTo n) n (standingOf class n)) (standingOf class n)
+  -- what the place of a class of events holds just before event n
+  unfoldable pub heldOf : Bool → (ℕ → Bool) → ℕ → Option ℕ
+  heldOf latest class zero = none
+  heldOf latest class (suc n) = cond (class n) (stood latest (parTo n) n (heldOf latest class n)) (heldOf latest class n)
 
-  -- event n is a read, or a write, of record r
-  abbrev pub readsOf : ℕ → ℕ → Bool
-  readsOf r n = isRead (accessOf (ev n)) && eqb (recordOf (ev n)) r
+module _ (R : Rules) (T : Trace) where
+  abbrev pub inClass : ℕ → ℕ → ℕ → Bool
+  inClass r c n = isOf r c (T .act n)
 
-  abbrev pub writesOf : ℕ → ℕ → Bool
-  writesOf r n = isWrite (accessOf (ev n)) && eqb (recordOf (ev n)) r
+  -- the place of class c of record r just before event n
+  abbrev pub held : ℕ → ℕ → ℕ → Option ℕ
+  held r c n = heldOf T (R .latest c) (inClass r c) n
 
-  -- the places of record r just before event n: "the last earlier write of the record", and "the standing read"
-  abbrev pub lastWrite : ℕ → ℕ → Option ℕ
-  lastWrite r n = last (writesOf r) n
+  -- event n conflicts with what the place of class c of record r holds, and that is parallel to it
+  abbrev pub finds : ℕ → ℕ → ℕ → Bool
+  finds r n c = R .clash c (classOf (T .act n)) && holds (parTo T n) (held r c n)
 
-  abbrev pub standing : ℕ → ℕ → Option ℕ
-  standing r n = standingOf (readsOf r) n
+  -- the class that is named first
+  abbrev pub foundClass : ℕ → ℕ → Option ℕ
+  foundClass r n = least (finds r n) (R .classes)
 
-  -- the last write, or the standing read, of event j's record is parallel to j
-  abbrev pub writeHit : ℕ → Bool
-  writeHit j = holds (parTo j) (lastWrite (recordOf (ev j)) j)
+  abbrev pub firstIn : ℕ → ℕ → Option ℕ → Option ℕ
+  firstIn r n none = none
+  firstIn r n (some c) = held r c n
 
-  abbrev pub readHit : ℕ → Bool
-  readHit j = holds (parTo j) (standing (recordOf (ev j)) j)
+  -- the access that event n is to be named with, on record r
+  unfoldable pub firstOf : ℕ → ℕ → Option ℕ
+  firstOf r n = firstIn r n (foundClass r n)
 
-  -- "The first is the last earlier write of the record if that is parallel to the second; otherwise the standing read."
-  unfoldable pub firstOf : ℕ → ℕ
-  firstOf j = Option·getD (cond (writeHit j) (lastWrite (recordOf (ev j)) j) (standing (recordOf (ev j)) j)) 0
-
-  -- what the two places say of event j: one of them conflicts with it and is parallel to it
-  unfoldable pub found : ℕ → Bool
-  found j = (conflict write (accessOf (ev j)) && writeHit j) || (conflict read (accessOf (ev j)) && readHit j)
+  -- event n is an access of record r that finds something at its places
+  unfoldable pub found : ℕ → ℕ → Bool
+  found r n = onRecord r (T .act n) && given (firstOf r n)

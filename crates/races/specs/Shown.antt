@@ -1,75 +1,75 @@
--- How the lent places hold each record's last write and standing read, and what an access finds there.
+-- How a lent buffer shows the places just before event n, and what an access makes of it.
 use mathlib.Core.Path.{_≡_}
-use mathlib.Core.Logic.{_≢_}
+use mathlib.Core.Logic.{_⊎_}
 use mathlib.Core.List.{List}
+use mathlib.Core.Bool.{Bool, true, false, _&&_}
 use mathlib.Core.Option.{Option, none, some}
-use Prim.Native.Nat.{ℕ, suc, _+_, _≤_, _<_}
-use lib.ListN.{length, getD}
-use lib.Dec.{ltb}
-use Rattle.jobfile.specs.Trace.{begunAt}
-use Rattle.jobfile.specs.declared.event.Event.{Event}
-use Rattle.relation.specs.Walk.{par}
-use Rattle.relation.specs.Strand.{strandAt}
-use Rattle.races.specs.Race.{secondIn}
-use Rattle.races.specs.Places.{lastWrite, standing}
-use Rattle.races.specs.Verdict.{race, verdict, stopAt}
+use Prim.Native.Nat.{ℕ, suc, _<_}
+use lib.ListN.{length}
+use Rattle.races.specs.Trace.{Trace, Lawful, access}
+use Rattle.races.specs.Rules.{Rules, Fit}
+use Rattle.races.specs.Places.{holds, parTo, held, firstOf}
+use Rattle.races.specs.Records.{secondOf, stopOf}
+use Rattle.races.specs.Entries.{Layout, Laid, Holding}
 use Rattle.races.specs.declared.Met.{Met}
 use Rattle.races.specs.declared.Met.the-variants.{First, Nothing}
 
--- "4,294,967,295 is none, for an event and its strand alike"
-abbrev pub eventOr : Option ℕ → ℕ
-eventOr none = 4294967295
-eventOr (some m) = m
+-- the access that is found, if any
+abbrev pub metOf : Option ℕ → Met
+metOf none = Nothing
+metOf (some f) = First f
 
-module _ (ev : ℕ → Event) where
-  abbrev pub strandOr : Option ℕ → ℕ
-  strandOr none = 4294967295
-  strandOr (some m) = strandAt ev m
+-- An access of class b, with the engine's word: class c is named if it conflicts and is told parallel, and no smaller one is both.
+module _ (R : Rules) (b : ℕ) (told : ℕ → Bool) where
+  pub record Names (c : ℕ) : Type 0 where
+    pub below : c < R .classes
+    pub clash : R .clash c b ≡ true
+    pub parallel : told c ≡ true
+    pub smaller : (d : ℕ) → d < c → (R .clash d b && told d) ≡ false
 
-  -- "For record r: last write's event at r, its strand at 4,096 + r, standing read's event at 8,192 + r, its strand at 12,288 + r". The
-  -- places just before event n; P₀ is what the buffer held once. "Entries [..] of records at or over the record count, and past the
-  -- lengths above keep what they had."
-  pub record Shown (n records : ℕ) (P₀ P : List ℕ) : Type 0 where
-    pub write : (r : ℕ) → r < records → getD P r 0 ≡ eventOr (lastWrite ev r n)
-    pub write-strand : (r : ℕ) → r < records → getD P (4096 + r) 0 ≡ strandOr (lastWrite ev r n)
-    pub read : (r : ℕ) → r < records → getD P (8192 + r) 0 ≡ eventOr (standing ev r n)
-    pub read-strand : (r : ℕ) → r < records → getD P (12288 + r) 0 ≡ strandOr (standing ev r n)
-    pub others : (i : ℕ) → ((r : ℕ) → r < records → (i ≢ r) × (i ≢ 4096 + r) × (i ≢ 8192 + r) × (i ≢ 12288 + r)) → getD P i 0 ≡ getD P₀ i 0
-    pub size : length P ≡ length P₀
+  abbrev pub NamesNone : Type 0
+  NamesNone = (d : ℕ) → d < R .classes → (R .clash d b && told d) ≡ false
 
-  -- the Hebrew labels tell whether an earlier access is parallel to event n
-  abbrev pub Tells : List ℕ → ℕ → Type 0
-  Tells L n = (m : ℕ) → m < n → ltb (getD L (4096 + strandAt ev n) 0) (getD L (4096 + strandAt ev m) 0) ≡ par ev m n
+module _ (R : Rules) (T : Trace) where
+  -- a record's place just before event n: it follows the events up to the record's own race and no further
+  abbrev pub shownAt : ℕ → ℕ → ℕ → Option ℕ
+  shownAt n r c = held R T r c (stopOf R T r n)
 
-  -- event n, access e to record r, may be judged
-  pub record Judgeable (n records : ℕ) (P₀ P L : List ℕ) (e : Event) (r at strand : ℕ) : Type 0 where
-    pub shown : Shown n records P₀ P
-    pub tells : Tells L n
-    pub event : ev n ≡ e
+  -- the places just before event n; P₀ is what the buffer held once
+  abbrev pub Shown : Layout → ℕ → ℕ → List ℕ → List ℕ → Type 0
+  Shown Y n records P₀ P = Holding Y (T .strand) records P₀ (shownAt n) P
+
+  -- Event n is an access of class b to record r, which has not raced, and the engine has told which places hold something parallel to it.
+  pub record Facing (n r b : ℕ) (told : ℕ → Bool) : Type 0 where
+    pub law : Lawful T
+    pub fit : Fit R T
+    pub is-access : T .act n ≡ access r b
+    pub unraced : secondOf R T r n ≡ none
+    -- of the classes that conflict with this one, and of this one
+    pub tells : (c : ℕ) → c < R .classes → (R .clash c b ≡ true) ⊎ (c ≡ b) → told c ≡ holds (parTo T n) (held R T r c n)
+
+  -- and the buffer shows the places before it
+  pub record Arriving (Y : Layout) (n records : ℕ) (P₀ P : List ℕ) (r b at strand : ℕ) (told : ℕ → Bool) : Type 0 where
+    pub facing : Facing n r b told
+    pub shown : Shown Y n records P₀ P
+    pub laid : Laid Y records (length P)
     pub on-record : r < records
-    pub records-fit : records ≤ 4096
     pub number : at ≡ n
     pub number-fits : n < 4294967295
-    pub strand-is : strand ≡ strandAt ev n
-    pub few : begunAt ev n ≤ 4096
-    pub places-room : 16384 ≤ length P
-    pub labels-room : 8192 ≤ length L
+    pub strand-is : strand ≡ T .strand n
+    pub strand-fits : T .strand n < 4294967295
 
-  -- "the racing access itself changes no place"; an access that does not race takes its place
-  abbrev pub Judged : ℕ → ℕ → List ℕ → List ℕ → List ℕ → ℕ → Met → Type 0
-  Judged n records P₀ P P′ r (First f) =
-      (P′ ≡ P) × (secondIn ev n ≡ none → (k : ℕ) → n < k → (verdict ev k ≡ race f n r) × (stopAt ev k ≡ n))
-  Judged n records P₀ P P′ r Nothing = (secondIn ev n ≡ none → secondIn ev (suc n) ≡ none) × Shown (suc n) records P₀ P′
-
--- what judging an access asks: some trace that the places show, with that access next
-pub record Askable (P L : List ℕ) (e : Event) (r at strand : ℕ) : Type 0 where
-  pub ev : ℕ → Event
+-- what an access asks: some trace that the places show, with that access next
+pub record Placeable (R : Rules) (Y : Layout) (told : ℕ → Bool) (P : List ℕ) (r b at strand : ℕ) : Type 0 where
+  pub T : Trace
   pub n : ℕ
   pub records : ℕ
   pub P₀ : List ℕ
-  pub judgeable : Judgeable ev n records P₀ P L e r at strand
+  pub arriving : Arriving R T Y n records P₀ P r b at strand told
 
--- what it gives, for every such trace
-abbrev pub Answers : List ℕ → List ℕ → Event → ℕ → ℕ → ℕ → List ℕ → Met → Type 0
-Answers P L e r at strand P′ met =
-    (ev : ℕ → Event) (n records : ℕ) (P₀ : List ℕ) → Judgeable ev n records P₀ P L e r at strand → Judged ev n records P₀ P P′ r met
+-- What it gives, for every such trace: the access that the rules name, or nothing; and the places one event further. "The racing access
+-- itself changes no place": the record is frozen from here on, and `Shown` says so.
+abbrev pub Placed : Rules → Layout → (ℕ → Bool) → List ℕ → ℕ → ℕ → ℕ → ℕ → List ℕ → Met → Type 0
+Placed R Y told P r b at strand P′ met =
+    (T : Trace) (n records : ℕ) (P₀ : List ℕ) → Arriving R T Y n records P₀ P r b at strand told
+    → (met ≡ metOf (firstOf R T r n)) × Shown R T Y (suc n) records P₀ P′

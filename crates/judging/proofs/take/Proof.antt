@@ -1,6 +1,8 @@
--- `judging::take` meets its contract: an event that meets something is the second of the race, and one that meets nothing is behind once its
--- strand has begun. Assumes nothing.
-use Rattle.judging.proofs.Course.{some-strands, turn-meets, turn-ready, turns-race, turns-go}
+-- `take` meets its contract: an access finds the first of a race at its record's places or is put there, and any other event is behind once
+-- its strand has begun. Assumes nothing.
+use mathlib.Core.Path.{sym, _∙_}
+use native.Mathlib.Omega.{arith}
+use Rattle.judging.proofs.Taking.{some-strands, record-below, may-ask, placeable, turns-race, turns-placed, ready, turns-moved}
 use borrow.Author.Needs.{needs}
 use Rattle.judging.proofs.take.Statement.{statement}
 use Rattle.judging.proofs.take.Tie as tie
@@ -8,23 +10,69 @@ use Rattle.judging.proofs.take.Tie as tie
 event-at-requires : tie.Need-event-at-requires
 event-at-requires c κs = search needs
 
-sub-meet : tie.Need-sub-meet
-sub-meet c = some-strands _ _ _ _ _ _ _ _ (c .before .before .before .before .before .before .pre)
+access-of-requires : tie.Need-access-of-requires
+access-of-requires c κs = search needs
 
-meet-requires : tie.Need-meet-requires
-meet-requires c κs = turn-meets _ _ _ _ _ _ _ _ _ (c .before .before .before .event-at .ensures) (c .before .before .before .before .before .before .before .before .pre)
+enum-known-kind : tie.Need-enum-known-kind
+enum-known-kind c = search needs
+
+cast-r : tie.Need-cast-r
+cast-r c = search needs
+
+sub-strand : tie.Need-sub-strand
+sub-strand c =
+    let read = c .before .before .before .before .before in
+    some-strands (read .before .before .before .before .before .pre) _ (read .event-at .ensures)
+
+asks-requires : tie.Need-asks-requires
+asks-requires c κs =
+    let arm = c .before .before .before .before in
+    let read = arm .before .before .before in
+    let asked = read .before .before .before .before .before .pre in
+    let to = sym (arm .before .before .access-of .ensures) ∙ arm .kind .given .1 in
+    may-ask asked _ (read .event-at .ensures) _ _ to _ (omega (arith, record-below asked _ (read .event-at .ensures) _ _ to))
+
+add-asks : tie.Need-add-asks
+add-asks c = search needs
+
+asks-requires-2 : tie.Need-asks-requires-2
+asks-requires-2 c κs =
+    let arm = c .before .before .before .before .before .before .before in
+    let read = arm .before .before .before in
+    let asked = read .before .before .before .before .before .pre in
+    let to = sym (arm .before .before .access-of .ensures) ∙ arm .kind .given .1 in
+    may-ask asked _ (read .event-at .ensures) _ _ to _ (omega (arith, record-below asked _ (read .event-at .ensures) _ _ to))
+
+access-requires : tie.Need-access-requires
+access-requires c κs =
+    let arm = c .before .before .before .before .before .before .before .before .before in
+    let read = arm .before .before .before in
+    let asked = read .before .before .before .before .before .pre in
+    let to = sym (arm .before .before .access-of .ensures) ∙ arm .kind .given .1 in
+    let wrote = c .before .before .before .before .asks .ensures in
+    let stood = c .before .asks2 .ensures in
+    let r = record-below asked _ (read .event-at .ensures) _ _ to in
+    (placeable asked _ (read .event-at .ensures) _ _ to _ _ wrote stood, omega (arith, asked .unraced .midway .places-room))
 
 enum-known-first : tie.Need-enum-known-first
 enum-known-first c = search needs
 
-record-of-requires : tie.Need-record-of-requires
-record-of-requires c κs = search needs
-
 enum-told : tie.Need-enum-told
 enum-told c = search needs
 
+enum-told-2 : tie.Need-enum-told-2
+enum-told-2 c = search needs
+
+move-of-requires : tie.Need-move-of-requires
+move-of-requires c κs = search needs
+
 advance-requires : tie.Need-advance-requires
-advance-requires c κs = turn-ready _ _ _ _ _ _ _ _ _ (c .before .before .before .before .before .before .before .before .before .before .before .before .event-at .ensures) (c .before .before .before .before .before .before .before .before .before .before .before .before .before .before .before .before .before .pre)
+advance-requires c κs =
+    let move = c .before .before .before .before in
+    let read = move .before .before .before .before in
+    let asked = read .before .before .before .before .before .pre in
+    let to = sym (move .before .before .before .access-of .ensures) ∙ move .before .enum-told2 .given .1 in
+    ready asked _ (read .event-at .ensures) to _ (move .move-of .ensures)
 
 same-length : tie.Need-same-length
 same-length c = search needs
@@ -34,8 +82,13 @@ same-length-2 c = search needs
 
 returns : tie.Need-returns
 returns c =
-    turns-race (c .before .before .before .before .before .before .before .before .before .before .before .before .before .before .before .args .part .now) (c .before .before .before .before .before .before .before .before .before .before .before .before .before .before .before .args .i) (c .before .before .before .before .before .before .before .before .before .before .before .before .before .before .before .args .labels .now) (c .before .before .before .before .before .before .before .before .before .before .before .before .before .before .before .args .links .now) (c .before .before .before .before .before .before .before .before .before .before .before .before .before .before .before .args .places .now) (c .before .before .before .before .before .before .before .before .before .before .before .before .before .before .before .args .lasts .now) (c .before .before .before .before .before .before .before .before .before .before .before .before .before .before .before .args .joins .now) (c .before .before .before .before .before .before .before .before .before .before .before .before .before .before .before .args .state)
-    _ (c .before .before .before .before .before .before .before .before .before .before .event-at .ensures) (c .before .before .before .before .before .before .meet .last .1 .1 .1 .0) _ _ (c .record-of .ensures) (rw (c .before .before .first .given .1) at (c .before .before .before .before .before .before .meet .ensures))
+    let arm = c .before .before .before .before .before .before .before .before .before .before .before .before .before .before .before in
+    let read = arm .before .before .before in
+    let asked = read .before .before .before .before .before .pre in
+    let to = sym (arm .before .before .access-of .ensures) ∙ arm .kind .given .1 in
+    let met = c .before .before .before .before .before in
+    turns-race asked _ (read .event-at .ensures) _ _ to _ _ (met .before .before .before .before .before .asks .ensures) (met .before .before .asks2 .ensures) (met .access .last .0) _
+    (rw (c .before .first .given .1) at (met .access .ensures))
 
 same-length-3 : tie.Need-same-length-3
 same-length-3 c = search needs
@@ -43,30 +96,55 @@ same-length-3 c = search needs
 same-length-4 : tie.Need-same-length-4
 same-length-4 c = search needs
 
+returns-2 : tie.Need-returns-2
+returns-2 c =
+    let arm = c .before .before .before .before .before .before .before .before .before .before .before .before .before .before in
+    let read = arm .before .before .before in
+    let asked = read .before .before .before .before .before .pre in
+    let to = sym (arm .before .before .access-of .ensures) ∙ arm .kind .given .1 in
+    let met = c .before .before .before .before in
+    turns-placed asked _ (read .event-at .ensures) _ _ to _ _ (met .before .before .before .before .before .asks .ensures) (met .before .before .asks2 .ensures) (met .access .last .0)
+    (rw (c .enum-told .given .1) at (met .access .ensures))
+
 same-length-5 : tie.Need-same-length-5
 same-length-5 c = search needs
 
-returns-2 : tie.Need-returns-2
-returns-2 c =
-    turns-go (c .before .before .before .before .before .before .before .before .before .before .before .before .before .before .before .before .before .before .before .before .before .before .args .part .now) (c .before .before .before .before .before .before .before .before .before .before .before .before .before .before .before .before .before .before .before .before .before .before .args .i) (c .before .before .before .before .before .before .before .before .before .before .before .before .before .before .before .before .before .before .before .before .before .before .args .labels .now) (c .before .before .before .before .before .before .before .before .before .before .before .before .before .before .before .before .before .before .before .before .before .before .args .links .now) (c .before .before .before .before .before .before .before .before .before .before .before .before .before .before .before .before .before .before .before .before .before .before .args .places .now) (c .before .before .before .before .before .before .before .before .before .before .before .before .before .before .before .before .before .before .before .before .before .before .args .lasts .now) (c .before .before .before .before .before .before .before .before .before .before .before .before .before .before .before .before .before .before .before .before .before .before .args .joins .now) (c .before .before .before .before .before .before .before .before .before .before .before .before .before .before .before .before .before .before .before .before .before .before .args .state)
-    _ (c .before .before .before .before .before .before .before .before .before .before .before .before .before .before .before .before .before .event-at .ensures) (c .before .before .before .before .before .before .before .before .before .before .before .before .before .meet .last .1 .1 .1 .0) (c .before .before .before .before .advance .last .1 .1 .1 .1 .0) (c .before .before .before .before .advance .last .1 .1 .1 .1 .1 .0) (c .before .before .before .before .advance .last .1 .1 .0) (c .before .before .before .before .advance .last .1 .1 .1 .0) (c .before .before .before .before .advance .result)
-    (rw (c .before .before .before .before .before .before .before .before .before .enum-told .given .1) at (c .before .before .before .before .before .before .before .before .before .before .before .before .before .meet .ensures)) (c .before .before .before .before .advance .ensures)
+same-length-6 : tie.Need-same-length-6
+same-length-6 c = search needs
+
+returns-3 : tie.Need-returns-3
+returns-3 c =
+    let move = c .before .before .before .before .before .before .before .before .before in
+    let read = move .before .before .before .before in
+    let asked = read .before .before .before .before .before .pre in
+    let to = sym (move .before .before .before .access-of .ensures) ∙ move .before .enum-told2 .given .1 in
+    let done = c .before .before .before .before in
+    turns-moved asked _ (read .event-at .ensures) to _ (move .move-of .ensures) _ _ (done .advance .result) (done .advance .ensures)
 
 pub take-spec : {M : Type 1} → statement M
 take-spec =
     tie.close
     (tie.spec
     event-at-requires
-    sub-meet
-    meet-requires
+    access-of-requires
+    enum-known-kind
+    cast-r
+    sub-strand
+    asks-requires
+    add-asks
+    asks-requires-2
+    access-requires
     enum-known-first
-    record-of-requires
     enum-told
+    enum-told-2
+    move-of-requires
     advance-requires
     same-length
     same-length-2
     returns
     same-length-3
     same-length-4
+    returns-2
     same-length-5
-    returns-2)
+    same-length-6
+    returns-3)

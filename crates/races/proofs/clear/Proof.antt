@@ -1,6 +1,6 @@
--- `clear` meets its contract: the four parts emptied show that no event has happened. Assumes nothing.
+-- `clear` meets its contract: the four runs are the places of the layout. Assumes nothing.
+use Rattle.races.proofs.Emptied.{emptied}
 use borrow.Author.Needs.{needs}
-use Rattle.races.proofs.Shown.{all-emptied}
 use Rattle.races.proofs.clear.Statement.{statement}
 use Rattle.races.proofs.clear.Tie as tie
 
@@ -25,7 +25,8 @@ returns c =
     let t = d .before .before .before .before in
     let b = t .before .before .before .before in
     let a = b .before .before .before .before in
-    λ ev. all-emptied ev _ _ _ _ _ _ (a .before .before .before .pre .1) (a .empty .ensures) (b .empty2 .ensures) (t .empty3 .ensures) (d .empty4 .ensures)
+    let start = a .before .before .before in
+    rw (d .empty4 .ensures .0, t .empty3 .ensures .0, b .empty2 .ensures .0, a .empty .ensures .0) (emptied _ _ (start .pre .1) (start .pre .0))
 
 pub clear-spec : {M : Type 1} → statement M
 clear-spec =

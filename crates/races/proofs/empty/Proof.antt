@@ -1,22 +1,22 @@
--- `empty` meets its contract: at the loop's head the entries passed are none, and every other one is as it was. The measure is what is left.
--- Assumes nothing.
-use mathlib.Core.Path.{_≡_}
+-- `empty` meets its contract: at the loop's head r entries are set. The measure is the entries that are left. Assumes nothing.
+use mathlib.Core.Path.{_≡_, refl, sym, _∙_}
 use Prim.Native.Nat.{_≤_, _-_}
 use native.Mathlib.Omega.{arith}
+use lib.ListN.{length, length-set}
 use borrow.Author.Needs.{needs}
-use Rattle.races.specs.Entries.{Emptied}
-use Rattle.races.proofs.Entries.{none-emptied, one-emptied}
+use Rattle.races.specs.Entries.{filled}
+use Rattle.races.proofs.Emptied.{filled-start, filled-more}
 use Rattle.races.proofs.empty.Statement.{statement}
 use Rattle.races.proofs.empty.Tie as tie
 
 abbrev Inv-loop : tie.InvT-loop
-Inv-loop places₀ from records r₀ places r = (r ≤ records) × Emptied from r places₀ places
+Inv-loop places₀ from records r₀ places r = (r ≤ records) × (places ≡ filled places₀ from r) × (length places ≡ length places₀)
 
 abbrev μ-loop : tie.MeasureT-loop
 μ-loop places₀ from records r₀ places r = records - r
 
 loop-holds : tie.Need-loop-holds Inv-loop μ-loop
-loop-holds c = (omega arith, none-emptied _ _)
+loop-holds c = (omega arith, filled-start _ _, refl)
 
 add-places : tie.Need-add-places Inv-loop μ-loop
 add-places c = omega arith
@@ -34,15 +34,13 @@ loop-less : tie.Need-loop-less Inv-loop μ-loop
 loop-less c = omega arith
 
 loop-again : tie.Need-loop-again Inv-loop μ-loop
-loop-again c = (omega arith, one-emptied _ _ _ _ (c .before .loop .inv .1) (omega arith))
+loop-again c = (omega arith, rw (c .before .loop .inv .1) (filled-more _ _ _), (simp length-set) ∙ c .before .loop .inv .2)
 
 same-length : tie.Need-same-length Inv-loop μ-loop
-same-length c = search needs
+same-length c = c .before .loop .inv .2
 
 returns : tie.Need-returns Inv-loop μ-loop
-returns c =
-    let e : c .before .loop .r ≡ c .before .before .args .records = omega arith in
-    rw e at (c .before .loop .inv .1)
+returns c = let e : c .before .loop .r ≡ c .before .before .args .records = omega arith in (rw e at (c .before .loop .inv .1), c .before .loop .inv .2)
 
 pub empty-spec : {M : Type 1} → statement M
 empty-spec =

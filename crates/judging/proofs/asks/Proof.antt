@@ -1,8 +1,8 @@
--- `meets` meets its contract: whichever strand the place is asked with has a label. Assumes nothing.
-use Rattle.races.specs.Entries.{metIn}
+-- `asks` meets its contract: whichever strand the place is asked with has a label. Assumes nothing.
+use Rattle.judging.specs.Asking.{heldAbove}
 use borrow.Author.Needs.{needs}
-use Rattle.races.proofs.meets.Statement.{statement}
-use Rattle.races.proofs.meets.Tie as tie
+use Rattle.judging.proofs.asks.Statement.{statement}
+use Rattle.judging.proofs.asks.Tie as tie
 
 add-wide : tie.Need-add-wide
 add-wide c = search needs
@@ -38,11 +38,11 @@ shared-slice-read-result-2 : tie.Need-shared-slice-read-result-2
 shared-slice-read-result-2 c = search needs
 
 returns : tie.Need-returns
-unfolding metIn
+unfolding heldAbove
 returns c = let h = c .before .before in rw (h .held-or .ensures .0, h .before .wide .ensures)
 
-pub meets-spec : {M : Type 1} → statement M
-meets-spec =
+pub asks-spec : {M : Type 1} → statement M
+asks-spec =
     tie.close
     (tie.spec
     add-wide
