@@ -7,7 +7,9 @@ ghost use Rattle.judging.specs.Answers.{judgeOf, judgeFault, judgedOf};
 ghost use Rattle.judging.specs.Buffers.{Leaves, Shows};
 ghost use Rattle.judging.specs.Turns.{Run, Turnable, Taken};
 ghost use Rattle.judging.specs.Asking.{heldOr, heldAbove, Askable};
+ghost use Rattle.jobfile.specs.File.{checkOf};
 ghost use Rattle.jobfile.specs.Trace.{eventAt};
+ghost use Rattle.jobfile.specs.declared.Checked.the-variants.{Accepted};
 ghost use Rattle.strands.specs.Memory.{memory, tasks};
 ghost use Rattle.races.specs.Named.{stopAt};
 ghost use Prim.Native.Nat.{_<_, _≤_};
@@ -55,16 +57,31 @@ pub fn judge(
 {
     match jobfile::check(file) {
         Checked::Refused(r) => Answer::Refused(r),
-        Checked::Accepted(j) => {
-            let fault = judge_fault(j, k, labels.len(), links.len(), places.len());
-            if fault != 0 {
-                return Answer::Refused(jobfile::refuse(fault, 0));
-            }
-            let start = j.start;
-            let end = start + 4 * j.events;
-            run(&file[start..end], k, j.records, labels, links, places)
-        }
+        Checked::Accepted(job) => judge_job(file, job, k, labels, links, places),
     }
+}
+
+// The same for a file that has been checked, with what the check gave: whoever has that need not have the file walked again.
+// requires: the job is what the check of this very file gives.
+pub fn judge_job(
+    file: &[u8],
+    job: Job,
+    k: usize,
+    labels: &mut [u64],
+    links: &mut [u16],
+    places: &mut [u32],
+) -> Answer
+    requires { ⌜ checkOf (now file) ≡ Accepted job ⌝ }
+    ensures { λ r. ⌜ r ≡ judgeOf (now (file .entry)) k (length (now (labels .entry))) (length (now (links .entry))) (length (now (places .entry))) ⌝ }
+    ensures { λ r. ⌜ Leaves r (now (file .entry)) k (now (labels .entry)) (now (links .entry)) (now (places .entry)) (now (labels .exit)) (now (links .exit)) (now (places .exit)) ⌝ }
+{
+    let fault = judge_fault(job, k, labels.len(), links.len(), places.len());
+    if fault != 0 {
+        return Answer::Refused(jobfile::refuse(fault, 0));
+    }
+    let start = job.start;
+    let end = start + 4 * job.events;
+    run(&file[start..end], k, job.records, labels, links, places)
 }
 
 // The first of refusals 15, 14 and 17 that is given, or 0. A respacing of 4,096 strands ends
