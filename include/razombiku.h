@@ -108,13 +108,6 @@ void rz_question(const uint8_t *file, size_t file_len, uint64_t i, uint64_t j, u
 void rz_judge(const uint8_t *file, size_t file_len, uint64_t k, uint64_t *labels, size_t labels_len, uint16_t *links,
               size_t links_len, uint32_t *places, size_t places_len, uint64_t *answer /* [9] */);
 
-/*
- * An order alone, to be timed: grown to 4,096 strands, strand j + 1 right behind strand (j * factor) % (j + 1). Factor 1 appends, 0 always
- * goes behind the first. Labels of strand s at s, next links at s, back links at 4,096 + s.
- * Gives how many labels that set or changed; 0, and nothing is stored, with fewer than 4,096 labels or 8,192 links.
- */
-uint64_t rz_grow(uint64_t *labels, size_t labels_len, uint16_t *links, size_t links_len, uint16_t factor);
-
 #ifdef __cplusplus
 }
 #endif

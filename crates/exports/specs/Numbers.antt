@@ -6,7 +6,7 @@ use Rattle.jobfile.specs.declared.Checked.{Checked}
 use Rattle.writing.specs.Written.{bytesWritten, refusalNumber as unwrittenNumber, refusalEvent as unwrittenEvent}
 use Rattle.writing.specs.declared.Written.{Written}
 use Rattle.relation.specs.Question.{answerNumber, answerRefusal, answerEvent}
-use Rattle.relation.specs.declared.Answer.{Answer as Compared}
+use Rattle.relation.specs.declared.Related.{Related}
 use Rattle.judging.specs.Answers.{Numbers, numbersOf}
 use Rattle.judging.specs.declared.Answer.{Answer as Judged}
 
@@ -20,7 +20,7 @@ abbrev pub writeNumbers : Written → List ℕ
 writeNumbers w = unwrittenNumber w ∷ unwrittenEvent w ∷ bytesWritten w ∷ []
 
 -- "answers 0 same event, 1 first before second, 2 second before first, 3 parallel": refusal, event, answer
-abbrev pub questionNumbers : Compared → List ℕ
+abbrev pub questionNumbers : Related → List ℕ
 questionNumbers a = answerRefusal a ∷ answerEvent a ∷ answerNumber a ∷ []
 
 -- "It gives clean or race, the two event numbers, the record, strands begun, and both label counts"

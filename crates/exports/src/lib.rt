@@ -10,7 +10,6 @@ ghost use Rattle.writing.specs.Written.{writeOf, outAfter};
 ghost use Rattle.relation.specs.Question.{questionOf};
 ghost use Rattle.judging.specs.Answers.{judgeOf};
 ghost use Rattle.judging.specs.Buffers.{Leaves};
-ghost use Rattle.growing.specs.Rule.{long, GrewOrNot};
 ghost use Rattle.exports.specs.Numbers.{readNumbers, writeNumbers, questionNumbers, judgeNumbers};
 use jobfile::Checked;
 use writing::Written;
@@ -93,15 +92,15 @@ fn write_numbers(w: Written) -> [u64; 3]
 }
 
 // The numbers of a question's answer.
-fn question_numbers(a: relation::Answer) -> [u64; 3]
+fn question_numbers(a: relation::Related) -> [u64; 3]
     ensures { λ r. ⌜ r ≡ questionNumbers a ⌝ }
 {
     match a {
-        relation::Answer::Same => [0, 0, 0],
-        relation::Answer::Before => [0, 0, 1],
-        relation::Answer::After => [0, 0, 2],
-        relation::Answer::Parallel => [0, 0, 3],
-        relation::Answer::Refused(r) => [r.number as u64, r.event as u64, 0],
+        relation::Related::Same => [0, 0, 0],
+        relation::Related::Before => [0, 0, 1],
+        relation::Related::After => [0, 0, 2],
+        relation::Related::Parallel => [0, 0, 3],
+        relation::Related::Refused(r) => [r.number as u64, r.event as u64, 0],
     }
 }
 
@@ -145,13 +144,4 @@ fn judge_numbers(a: judging::Answer) -> [u64; 9]
         ],
         judging::Answer::Refused(r) => [r.number as u64, r.event as u64, 0, 0, 0, 0, 0, 0, 0],
     }
-}
-
-// An order alone, grown to 4,096 strands: strand j + 1 goes right behind strand (j * factor) % (j + 1).
-// Gives how many labels that set or changed, or 0 where a buffer is too short and nothing is stored.
-#[no_mangle]
-pub extern "C" fn rz_grow(labels: &mut [u64], links: &mut [u16], factor: u16) -> u64
-    ensures { λ r. ⌜ GrewOrNot (long (length (now (labels .entry))) (length (now (links .entry)))) (now (labels .entry)) (now (links .entry)) factor (now (labels .exit)) (now (links .exit)) r ⌝ }
-{
-    growing::grow(labels, links, factor) as u64
 }

@@ -16,7 +16,7 @@ use Rattle.jobfile.specs.declared.coding.Decoded.the-variants.{Event as 
 use Rattle.jobfile.proofs.Tests.{either}
 use Rattle.jobfile.specs.Coding.{eventOf, toldOf, decodeAt}
 use Rattle.jobfile.specs.Trailer.{wordAt}
-use Rattle.jobfile.specs.Tasks.{moved, recordFault, stepOn, stepOf, Leads}
+use Rattle.jobfile.specs.Tasks.{bareEvent, recordFault, stepOn, stepOf, Leads}
 use Rattle.jobfile.specs.declared.tasks.Step.{Step}
 use Rattle.jobfile.specs.declared.tasks.Step.the-variants.{Go, Stop, NoEvent}
 
@@ -91,11 +91,11 @@ module _ (bytes : List ℕ) (at : ℕ) (kind : getD bytes at 0 < 256) (second : 
       rw (split, digits-div high below, digits-mod high below) (sym (told-is (getD bytes at 0) (getD bytes (at + 1) 0) high kind))
 
 -- a number below 4, but 0, is a kind with no record
-pub told-small : (w : ℕ) → w ≢ 0 → w < 4 → toldOf (w % 65536) (w / 65536) ≡ An (moved (eqb w 1) (eqb w 2))
+pub told-small : (w : ℕ) → w ≢ 0 → w < 4 → toldOf (w % 65536) (w / 65536) ≡ An (bareEvent (eqb w 1) (eqb w 2))
 unfolding toldOf
 told-small w z h = go (eqb w 1) refl (eqb w 2) refl
   where
-    go : (a : Bool) → eqb w 1 ≡ a → (b : Bool) → eqb w 2 ≡ b → toldOf (w % 65536) (w / 65536) ≡ An (moved (eqb w 1) (eqb w 2))
+    go : (a : Bool) → eqb w 1 ≡ a → (b : Bool) → eqb w 2 ≡ b → toldOf (w % 65536) (w / 65536) ≡ An (bareEvent (eqb w 1) (eqb w 2))
     go true p b q = rw (eqb-true w 1 p)
     go false p true q = rw (eqb-true w 2 q)
     go false p false q =

@@ -8,18 +8,18 @@ use lib.Dec.{ltb}
 use borrow.Author.Tests.{eq-eqb, ne-eqb, lt-ltb, le-ltb, ltb-true}
 use Rattle.jobfile.specs.Refusals.{refusalOf}
 use Rattle.jobfile.specs.declared.event.Event.{Event}
-use Rattle.relation.specs.Between.{Walkable}
+use Rattle.relation.specs.Between.{Stretch}
 use Rattle.jobfile.specs.declared.event.Move.{Move}
 use Rattle.jobfile.specs.declared.event.Access.{Access}
 use Rattle.jobfile.specs.Events.{accessOf}
 use Rattle.jobfile.specs.Trace.{moves}
 use Rattle.relation.specs.Question.{isAccess, accessAt, compareOf, askedOf}
 use Rattle.relation.specs.Walk.{par}
-use Rattle.relation.specs.declared.Answer.the-variants.{Same, Before, After, Parallel, Refused}
+use Rattle.relation.specs.declared.Related.the-variants.{Same, Before, After, Parallel, Refused}
 
 -- the events between two numbers below the count can be walked
-pub walkable-between : (part : List ℕ) (count p q : ℕ) → Walkable part 0 count → p ≤ q → q < count → Walkable part p q
-walkable-between part count p q w pq qc = record {
+pub stretch-between : (part : List ℕ) (count p q : ℕ) → Stretch part 0 count → p ≤ q → q < count → Stretch part p q
+stretch-between part count p q w pq qc = record {
   order = pq;
   room = omega arith;
   few = omega arith;

@@ -8,17 +8,17 @@ use Rattle.jobfile.specs.declared.event.Event.{Event}
 use Rattle.jobfile.specs.declared.event.Event.the-variants.{Spawn, End, Sync, Read, Write}
 use Rattle.relation.specs.Question.{compareOf, askedOf}
 use Rattle.relation.specs.Walk.{opened, moveAt, walkFor, walk}
-use Rattle.relation.specs.declared.Answer.{Answer}
-use Rattle.relation.specs.declared.Answer.the-variants.{Same, Before, After, Parallel, Refused}
+use Rattle.relation.specs.declared.Related.{Related}
+use Rattle.relation.specs.declared.Related.the-variants.{Same, Before, After, Parallel, Refused}
 
 -- a job's events, two of their numbers, and what must come out
 record Case : Type 0 where
   events : List Event
   i : ℕ
   j : ℕ
-  answer : Answer
+  answer : Related
 
-abbrev case : List Event → ℕ → ℕ → Answer → Case
+abbrev case : List Event → ℕ → ℕ → Related → Case
 case events i j answer = record { events = events; i = i; j = j; answer = answer }
 
 -- the letters of the small jobs
@@ -57,7 +57,7 @@ cases =
     ∷ case (S ∷ W0 ∷ E ∷ []) 3 1 (Refused (refusalOf 15 0))
     ∷ []
 
-abbrev answered : Case → Answer
+abbrev answered : Case → Related
 answered c = askedOf (λ n. getD (c .events) n Sync) (length (c .events)) (c .i) (c .j)
 
 pub cases-hold : map answered cases ≡ map (λ c. c .answer) cases

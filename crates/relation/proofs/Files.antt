@@ -9,9 +9,9 @@ use Rattle.jobfile.specs.File.{checkOf, eventsFrom}
 use Rattle.jobfile.specs.declared.Checked.the-variants.{Accepted, Refused as Unread}
 use Rattle.jobfile.specs.declared.Job.{Job}
 use Rattle.jobfile.specs.declared.refusal.Refusal.{Refusal}
-use Rattle.relation.specs.Between.{Walkable}
+use Rattle.relation.specs.Between.{Stretch}
 use Rattle.relation.specs.Question.{eventsOf, askedOf, questionOf}
-use Rattle.relation.specs.declared.Answer.the-variants.{Refused}
+use Rattle.relation.specs.declared.Related.the-variants.{Refused}
 
 pub question-unread : (file : List ℕ) (i j : ℕ) (r : Refusal) → checkOf file ≡ Unread r → questionOf file i j ≡ Refused r
 unfolding questionOf
@@ -23,8 +23,8 @@ module _ (file : List ℕ) (job : Job) (e : checkOf file ≡ Accepted job) where
   question-asked i j = rw e
 
   -- all events of an accepted file can be walked
-  pub walkable-file : Walkable (eventsFrom file (job .start) (job .events)) 0 (job .events)
-  walkable-file = record {
+  pub stretch-file : Stretch (eventsFrom file (job .start) (job .events)) 0 (job .events)
+  stretch-file = record {
     order = omega arith;
     room = simp (length-take, length-drop) (omega (arith, accepted-fits file job e));
     few = omega (arith, accepted-fits file job e);

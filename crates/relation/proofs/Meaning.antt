@@ -14,8 +14,8 @@ use Rattle.jobfile.specs.Trace.{moves}
 use Rattle.relation.specs.Parallel.{Parallel as IsParallel, Before as IsBefore, Rooted}
 use Rattle.relation.specs.Question.{answerNumber, Says, compareOf, eventsOf, Accesses, questionOf}
 use Rattle.relation.specs.Walk.{par}
-use Rattle.relation.specs.declared.Answer.{Answer}
-use Rattle.relation.specs.declared.Answer.the-variants.{Same, Before, After, Parallel, Refused}
+use Rattle.relation.specs.declared.Related.{Related}
+use Rattle.relation.specs.declared.Related.the-variants.{Same, Before, After, Parallel, Refused}
 use Rattle.relation.proofs.Agree.{walk-sound}
 use Rattle.relation.proofs.Answers.{compare-same, compare-parallel, compare-before, compare-parallel-back, compare-after, two-accesses}
 use Rattle.relation.proofs.Files.{question-asked}
@@ -23,7 +23,7 @@ use Rattle.relation.proofs.Laws.{bool-cases, parallel-less, before-soun
 
 module _ (mv : ℕ → Move) (i j : ℕ) where
   -- no second answer fits
-  pub one-answer : (a b : Answer) → Says mv i j a → Says mv i j b → a ≡ b
+  pub one-answer : (a b : Related) → Says mv i j a → Says mv i j b → a ≡ b
   one-answer Same Same p q = refl
   one-answer Same Before p q = absurd (omega arith)
   one-answer Same After p q = absurd (omega arith)
@@ -53,28 +53,28 @@ module _ (mv : ℕ → Move) (i j : ℕ) where
   one-answer (Refused r) b p q = absurd p
 
   -- the numbers tell the answers of two accesses apart
-  number-same : (a : Answer) → Says mv i j a → answerNumber a ≡ 0 → i ≡ j
+  number-same : (a : Related) → Says mv i j a → answerNumber a ≡ 0 → i ≡ j
   number-same Same p e = p
   number-same Before p e = absurd (omega arith)
   number-same After p e = absurd (omega arith)
   number-same Parallel p e = absurd (omega arith)
   number-same (Refused r) p e = absurd p
 
-  number-before : (a : Answer) → Says mv i j a → answerNumber a ≡ 1 → IsBefore mv i j
+  number-before : (a : Related) → Says mv i j a → answerNumber a ≡ 1 → IsBefore mv i j
   number-before Same p e = absurd (omega arith)
   number-before Before p e = p
   number-before After p e = absurd (omega arith)
   number-before Parallel p e = absurd (omega arith)
   number-before (Refused r) p e = absurd p
 
-  number-after : (a : Answer) → Says mv i j a → answerNumber a ≡ 2 → IsBefore mv j i
+  number-after : (a : Related) → Says mv i j a → answerNumber a ≡ 2 → IsBefore mv j i
   number-after Same p e = absurd (omega arith)
   number-after Before p e = absurd (omega arith)
   number-after After p e = p
   number-after Parallel p e = absurd (omega arith)
   number-after (Refused r) p e = absurd p
 
-  number-parallel : (a : Answer) → Says mv i j a → answerNumber a ≡ 3 → IsParallel mv i j ⊎ IsParallel mv j i
+  number-parallel : (a : Related) → Says mv i j a → answerNumber a ≡ 3 → IsParallel mv i j ⊎ IsParallel mv j i
   number-parallel Same p e = absurd (omega arith)
   number-parallel Before p e = absurd (omega arith)
   number-parallel After p e = absurd (omega arith)

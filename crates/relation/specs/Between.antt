@@ -11,7 +11,7 @@ abbrev pub walkerOf : State → Walker
 walkerOf w = record { height = w .height; par = w .par }
 
 -- the events of a part can be walked from p to q
-pub record Walkable (part : List ℕ) (p q : ℕ) : Type 0 where
+pub record Stretch (part : List ℕ) (p q : ℕ) : Type 0 where
   pub order : p ≤ q
   pub room : 4 * q ≤ length part
   pub few : q ≤ 1000000

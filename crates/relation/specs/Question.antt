@@ -18,11 +18,11 @@ use Rattle.jobfile.specs.declared.event.Access.the-variants.{None, To}
 use Rattle.jobfile.specs.Events.{accessOf}
 use Rattle.relation.specs.Parallel.{Before as IsBefore, Parallel as IsParallel}
 use Rattle.relation.specs.Walk.{par}
-use Rattle.relation.specs.declared.Answer.{Answer}
-use Rattle.relation.specs.declared.Answer.the-variants.{Same, Before, After, Parallel, Refused}
+use Rattle.relation.specs.declared.Related.{Related}
+use Rattle.relation.specs.declared.Related.the-variants.{Same, Before, After, Parallel, Refused}
 
 -- "answers 0 same event, 1 first before second, 2 second before first, 3 parallel"; a refusal gives "zeros elsewhere"
-abbrev pub answerNumber : Answer → ℕ
+abbrev pub answerNumber : Related → ℕ
 answerNumber Same = 0
 answerNumber Before = 1
 answerNumber After = 2
@@ -30,7 +30,7 @@ answerNumber Parallel = 3
 answerNumber (Refused r) = 0
 
 -- the refusal's number, 0 where there is none
-abbrev pub answerRefusal : Answer → ℕ
+abbrev pub answerRefusal : Related → ℕ
 answerRefusal Same = 0
 answerRefusal Before = 0
 answerRefusal After = 0
@@ -38,7 +38,7 @@ answerRefusal Parallel = 0
 answerRefusal (Refused r) = r .number
 
 -- the refusal's event
-abbrev pub answerEvent : Answer → ℕ
+abbrev pub answerEvent : Related → ℕ
 answerEvent Same = 0
 answerEvent Before = 0
 answerEvent After = 0
@@ -51,7 +51,7 @@ isAccess (To kind r) = true
 
 module _ (mv : ℕ → Move) where
   -- what an answer says of two accesses i and j, by the definition; a theorem ties the walk of `compareOf` to it
-  abbrev pub Says : ℕ → ℕ → Answer → Type 0
+  abbrev pub Says : ℕ → ℕ → Related → Type 0
   Says i j Same = i ≡ j
   Says i j Before = IsBefore mv i j
   Says i j After = IsBefore mv j i
@@ -59,7 +59,7 @@ module _ (mv : ℕ → Move) where
   Says i j (Refused r) = ⊥
 
   -- the answer, by the walk that decides parallel
-  unfoldable pub compareOf : ℕ → ℕ → Answer
+  unfoldable pub compareOf : ℕ → ℕ → Related
   compareOf i j =
       cond (eqb i j) Same
       (cond (ltb i j) (cond (par mv i j) Parallel Before)
@@ -72,7 +72,7 @@ module _ (ev : ℕ → Event) where
 
   -- "the question with 15 for each number, then 18 for each"; 15: "an event number not below" the event count; 18: "question about an
   -- event that is no access"
-  unfoldable pub askedOf : ℕ → ℕ → ℕ → Answer
+  unfoldable pub askedOf : ℕ → ℕ → ℕ → Related
   askedOf count i j =
       cond (ltb i count && ltb j count)
       (cond (accessAt i && accessAt j) (compareOf (moves ev) i j)
@@ -84,7 +84,7 @@ abbrev pub eventsOf : List ℕ → Job → ℕ → Event
 eventsOf file job = eventAt (eventsFrom file (job .start) (job .events))
 
 -- with the file checked
-abbrev pub afterCheck : Checked → List ℕ → ℕ → ℕ → Answer
+abbrev pub afterCheck : Checked → List ℕ → ℕ → ℕ → Related
 afterCheck (Accepted job) file i j = askedOf (eventsOf file job) (job .events) i j
 afterCheck (Unread r) file i j = Refused r
 
@@ -97,5 +97,5 @@ pub record Accesses (file : List ℕ) (job : Job) (i j : ℕ) : Type 0 where
   pub second-access : accessAt (eventsOf file job) j ≡ true
 
 -- "The question takes a file and two event numbers"
-unfoldable pub questionOf : List ℕ → ℕ → ℕ → Answer
+unfoldable pub questionOf : List ℕ → ℕ → ℕ → Related
 questionOf file i j = afterCheck (checkOf file) file i j

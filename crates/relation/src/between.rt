@@ -4,7 +4,7 @@ ghost use mathlib.Core.Bool.{true};
 ghost use Prim.Native.Nat.{_+_, _≤_, _<_};
 ghost use Rattle.jobfile.specs.Trace.{eventAt, moves};
 ghost use Rattle.relation.specs.Walk.{move, par};
-ghost use Rattle.relation.specs.Between.{walkerOf, Walkable};
+ghost use Rattle.relation.specs.Between.{walkerOf, Stretch};
 use jobfile::Move;
 use jobfile::event_at;
 use jobfile::move_of;
@@ -19,7 +19,7 @@ pub struct Walker {
 // Whether event p is parallel to event q. One pass over the events between them.
 // requires: q is an event of the part, and no end up to it closes the root.
 pub fn parallel(part: &[u8], p: usize, q: usize) -> bool
-    requires { ⌜ Walkable (now part) p q ⌝ }
+    requires { ⌜ Stretch (now part) p q ⌝ }
     ensures { λ r. ⌜ r ≡ par (moves (eventAt (now (part .entry)))) p q ⌝ }
 {
     let mut w = Walker {

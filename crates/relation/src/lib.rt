@@ -9,7 +9,7 @@ ghost use mathlib.Core.Bool.{_&&_};
 ghost use Prim.Native.Nat.{_<_};
 ghost use lib.Dec.{ltb};
 ghost use Rattle.jobfile.specs.Trace.{eventAt, moves};
-ghost use Rattle.relation.specs.Between.{Walkable};
+ghost use Rattle.relation.specs.Between.{Stretch};
 ghost use Rattle.relation.specs.Question.{questionOf, askedOf, compareOf, isAccess, accessAt};
 use between::parallel;
 use jobfile::Access;
@@ -21,7 +21,7 @@ use jobfile::event_at;
 use jobfile::refuse;
 
 // How the first of two accesses stands to the second.
-pub enum Answer {
+pub enum Related {
     Same,
     Before,
     After,
@@ -31,11 +31,11 @@ pub enum Answer {
 
 // The question about events i and j of a file: the check of the file, then one pass over the
 // events between the two.
-pub fn question(file: &[u8], i: usize, j: usize) -> Answer
+pub fn question(file: &[u8], i: usize, j: usize) -> Related
     ensures { λ r. ⌜ r ≡ questionOf (now (file .entry)) i j ⌝ }
 {
     match check(file) {
-        Checked::Refused(r) => Answer::Refused(r),
+        Checked::Refused(r) => Related::Refused(r),
         Checked::Accepted(job) => {
             let start = job.start;
             let end = start + 4 * job.events;
@@ -46,17 +46,17 @@ pub fn question(file: &[u8], i: usize, j: usize) -> Answer
 
 // The question about events i and j of an accepted file's events, of which there are `count`.
 // requires: the part holds the events, and no end closes the root.
-fn asked(part: &[u8], count: usize, i: usize, j: usize) -> Answer
-    requires { ⌜ Walkable (now part) 0 count ⌝ }
+fn asked(part: &[u8], count: usize, i: usize, j: usize) -> Related
+    requires { ⌜ Stretch (now part) 0 count ⌝ }
     ensures { λ r. ⌜ r ≡ askedOf (eventAt (now (part .entry))) count i j ⌝ }
 {
     let below = both(i < count, j < count);
     let access = both(access_at(part, count, i), access_at(part, count, j));
     if !below {
-        return Answer::Refused(refuse(15, 0));
+        return Related::Refused(refuse(15, 0));
     }
     if !access {
-        return Answer::Refused(refuse(18, 0));
+        return Related::Refused(refuse(18, 0));
     }
     compare(part, count, i, j)
 }
@@ -73,7 +73,7 @@ fn both(a: bool, b: bool) -> bool
 // Whether n is the number of an access.
 // requires: as `asked`.
 fn access_at(part: &[u8], count: usize, n: usize) -> bool
-    requires { ⌜ Walkable (now part) 0 count ⌝ }
+    requires { ⌜ Stretch (now part) 0 count ⌝ }
     ensures { λ r. ⌜ r ≡ (ltb n count && accessAt (eventAt (now (part .entry))) n) ⌝ }
 {
     if n >= count {
@@ -94,22 +94,22 @@ fn is_access(a: Access) -> bool
 
 // The answer about two accesses of an accepted file's events.
 // requires: as `asked`, and both numbers are below the count.
-fn compare(part: &[u8], count: usize, i: usize, j: usize) -> Answer
-    requires { ⌜ Walkable (now part) 0 count ⌝ }
+fn compare(part: &[u8], count: usize, i: usize, j: usize) -> Related
+    requires { ⌜ Stretch (now part) 0 count ⌝ }
     requires { ⌜ (i < count) × (j < count) ⌝ }
     ensures { λ r. ⌜ r ≡ compareOf (moves (eventAt (now (part .entry)))) i j ⌝ }
 {
     if i == j {
-        return Answer::Same;
+        return Related::Same;
     }
     if i < j {
         if parallel(part, i, j) {
-            return Answer::Parallel;
+            return Related::Parallel;
         }
-        return Answer::Before;
+        return Related::Before;
     }
     if parallel(part, j, i) {
-        return Answer::Parallel;
+        return Related::Parallel;
     }
-    Answer::After
+    Related::After
 }

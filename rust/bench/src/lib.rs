@@ -3,6 +3,8 @@
 
 pub mod check;
 pub mod event;
+#[cfg(feature = "rattle")]
+mod growing;
 pub mod jobs;
 pub mod kind;
 pub mod order;

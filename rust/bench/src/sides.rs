@@ -47,7 +47,7 @@ pub type Grow = fn(&mut [u64], &mut [u16], u16) -> u64;
 /// The library, if it is there.
 #[cfg(feature = "rattle")]
 fn library() -> Option<(&'static dyn Calls, Grow)> {
-    Some((&compare::ffi::Library, compare::ffi::grow))
+    Some((&compare::ffi::Library, crate::growing::grow))
 }
 
 #[cfg(not(feature = "rattle"))]

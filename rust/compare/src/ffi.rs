@@ -27,12 +27,6 @@ extern "C" {
         places_len: usize,
         answer: *mut [u64; 9],
     );
-    fn rz_grow(labels: *mut u64, labels_len: usize, links: *mut u16, links_len: usize, factor: u16) -> u64;
-}
-
-/// An order alone, grown to 4,096 strands by the rule of `factor`; how many labels that set or changed.
-pub fn grow(labels: &mut [u64], links: &mut [u16], factor: u16) -> u64 {
-    unsafe { rz_grow(labels.as_mut_ptr(), labels.len(), links.as_mut_ptr(), links.len(), factor) }
 }
 
 /// The library. Its answers are arrays of canaries before a call: a number that it does not store shows.

@@ -5,7 +5,7 @@ use lib.Dec.{ltb}
 use borrow.Author.Tests.{not-true, not-false}
 use Rattle.jobfile.specs.Trace.{eventAt}
 use Rattle.relation.specs.Question.{accessAt}
-use Rattle.relation.specs.declared.Answer.the-variants.{Refused}
+use Rattle.relation.specs.declared.Related.the-variants.{Refused}
 use Rattle.relation.proofs.Answers.{both-told, both-below, asked-over, asked-no-access, asked-accesses}
 use borrow.Author.Needs.{needs}
 use Rattle.relation.proofs.asked.Statement.{statement}

@@ -8,7 +8,7 @@ use native.Mathlib.Nat.{add-sub-cancel-left}
 use native.Mathlib.Omega.{arith}
 use Rattle.jobfile.specs.File.{CheckFits}
 use Rattle.jobfile.specs.declared.Checked.the-variants.{Accepted}
-use Rattle.relation.proofs.Files.{question-unread, question-asked, walkable-file}
+use Rattle.relation.proofs.Files.{question-unread, question-asked, stretch-file}
 use Rattle.relation.proofs.question.Statement.{statement}
 use Rattle.relation.proofs.question.Tie as tie
 
@@ -46,7 +46,7 @@ asked-requires c κs =
     let told = c .before .before .before in
     let job = told .job .given .0 .0 in
     rw (add-sub-cancel-left (job .start) (4 * job .events))
-    (walkable-file (told .before .before .before .before .args .file .now) job (sym (told .before .before .check .ensures .0) ∙ told .job .given .1))
+    (stretch-file (told .before .before .before .before .args .file .now) job (sym (told .before .before .check .ensures .0) ∙ told .job .given .1))
 
 returns : tie.Need-returns
 returns c =

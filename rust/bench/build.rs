@@ -1,0 +1,8 @@
+//! Links the static library of crate `growing`.
+
+#[path = "../link.rs"]
+mod link;
+
+fn main() {
+    link::link("growing");
+}
