@@ -65,7 +65,7 @@ pub small-lines : lines (fileL4 ∷ case5 ∷ emptyJob ∷ [] ∷ [])
     ∷ ascii "clean strands 1 english 1 hebrew 1 name \n"
     ∷ ascii "refused 1 event 0\n"
     ∷ [])
-unfolding lineOf digitsWithin pairText kindsText countsText nameText refusalText judgeOf judgeFault noRoom judgedOf checkOf headOf headSized headNamed trailerFault printable startsWith wordAt traceFrom finish stepOn taskFault eventOf eventAt tasksAt begunAt opened moveAt walkFor walk any least races raced heldOf firstOf racedAny verdictIn stopIn cells stateAt countAt insertAfter differ ceiling limit gapAt hasRoom middle spread insertLab insertState diffs insertCount
+unfolding lineOf digitsWithin pairText kindsText countsText nameText refusalText judgeOf judgeFault noRoom judgedOf checkOf headOf headSized headNamed trailerFault printable startsWith wordAt traceFrom finish stepOn moveOn taskFault recordFault eventOf eventAt tasksAt begunAt opened moveAt walkFor walk any least races raced heldOf firstOf racedAny verdictIn stopIn cells stateAt countAt insertAfter differ ceiling limit gapAt hasRoom middle spread insertLab insertState diffs insertCount
 small-lines = refl
 
 pub small-numbers : map digitsOf (0 ∷ 9 ∷ 10 ∷ 129 ∷ 4096 ∷ 18446744073709551615 ∷ [])

@@ -14,7 +14,8 @@ use Rattle.jobfile.specs.File.{checkOf, nameLength, eventCount, eventsFrom, eve
 use Rattle.jobfile.specs.declared.Checked.{Checked}
 use Rattle.jobfile.specs.declared.Checked.the-variants.{Accepted, Refused as Unread}
 use Rattle.jobfile.proofs.Whole.{accepted-fits, accepted}
-use Rattle.races.specs.Verdict.{Verdict, clean, race, verdict}
+use Rattle.races.specs.Records.{Verdict, clean, race}
+use Rattle.races.specs.Named.{verdict}
 use Rattle.races.proofs.Named.{verdict-race}
 use Rattle.judging.specs.Answers.{answerWith, judgedOf, judgeFault, afterCheck, judgeOf}
 use Rattle.judging.specs.declared.Answer.{Answer}
