@@ -69,7 +69,11 @@ pub fn access(
                 return Met::First(wide(places[r]));
             }
             let event = pick(stood, places[STANDING_READS + r], at as u32);
-            let held = pick(stood, places[STANDING_READS + ITS_STRAND + r], strand as u32);
+            let held = pick(
+                stood,
+                places[STANDING_READS + ITS_STRAND + r],
+                strand as u32,
+            );
             put(places, STANDING_READS + r, event, held);
             Met::Nothing
         }
