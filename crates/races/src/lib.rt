@@ -49,7 +49,8 @@ fn empty(places: &mut [u32], from: usize, records: usize)
 // A read races with the last write. Otherwise it stands if no read does, or if the standing one is before it; and else that one is put
 // again, since a processor cannot foresee which. A write races with either; where it does with neither, it is the last one. Most do: so
 // one test for both.
-// requires: the places show the events before this one, the record has not raced, and the engine has told the truth about the two.
+// requires: the places have the record's entries and show the events before this one, the record has not raced, and the engine has told
+// the truth about the two.
 pub fn access(
     places: &mut [u32],
     kind: Kind,
