@@ -17,6 +17,10 @@ use jobfile::Access;
 use jobfile::Checked;
 use jobfile::Job;
 use jobfile::Refusal;
+use limits::HEBREW_LABELS;
+use limits::ITS_STRAND;
+use limits::STANDING_READS;
+use limits::STRANDS;
 use races::Met;
 use strands::Now;
 
@@ -183,7 +187,7 @@ fn take(
             let r = record as usize;
             let strand = state.strands - 1;
             let wrote = asks(places, labels, r, strand);
-            let stood = asks(places, labels, 8192 + r, strand);
+            let stood = asks(places, labels, STANDING_READS + r, strand);
             match races::access(places, kind, r, i, strand, wrote, stood) {
                 Met::First(first) => Turn::Raced { first, record: r },
                 Met::Nothing => Turn::Go(state),
@@ -201,8 +205,8 @@ fn asks(places: &[u32], labels: &[u64], at: usize, strand: usize) -> bool
     requires { ⌜ Askable (now places) (now labels) at strand ⌝ }
     ensures { λ r. ⌜ r ≡ heldAbove (now (labels .entry)) (now (places .entry)) at strand ⌝ }
 {
-    let other = held_or(wide(places[at + 4096]), strand);
-    labels[4096 + strand] < labels[4096 + other]
+    let other = held_or(wide(places[at + ITS_STRAND]), strand);
+    labels[HEBREW_LABELS + strand] < labels[HEBREW_LABELS + other]
 }
 
 // The strand that a place holds, or `strand` where that is none. The machine picks one without a branch: which places are empty
@@ -212,7 +216,7 @@ fn held_or(held: usize, strand: usize) -> usize
     ensures { λ r. ⌜ r ≡ heldOr held strand ⌝ }
     ensures { λ r. ⌜ r < 4096 ⌝ }
 {
-    if held < 4096 {
+    if held < STRANDS {
         return held;
     }
     strand

@@ -8,6 +8,9 @@ ghost use Rattle.races.specs.Entries.{put, filled, Empty};
 ghost use Rattle.races.specs.Shown.{Placeable, Placed};
 ghost use Rattle.races.specs.Mark.{rank, rules, layout, two};
 use jobfile::Kind;
+use limits::ITS_STRAND;
+use limits::NO_PLACE;
+use limits::STANDING_READS;
 
 // What an access finds: the first access of a race with it, or nothing.
 pub enum Met {
@@ -23,9 +26,9 @@ pub fn clear(places: &mut [u32], records: usize)
     ensures { λ _. ⌜ Empty layout records (now (places .entry)) (now (places .exit)) ⌝ }
 {
     empty(places, 0, records);
-    empty(places, 4096, records);
-    empty(places, 8192, records);
-    empty(places, 12288, records);
+    empty(places, ITS_STRAND, records);
+    empty(places, STANDING_READS, records);
+    empty(places, STANDING_READS + ITS_STRAND, records);
 }
 
 // Makes as many entries from `from` on none: one fill of memory for each of the four parts.
@@ -36,7 +39,7 @@ fn empty(places: &mut [u32], from: usize, records: usize)
 {
     let mut r: usize = 0;
     while r < records {
-        places[from + r] = 4294967295;
+        places[from + r] = NO_PLACE;
         r += 1;
     }
 }
@@ -46,7 +49,8 @@ fn empty(places: &mut [u32], from: usize, records: usize)
 // A read races with the last write. Otherwise it stands if no read does, or if the standing one is before it; and else that one is put
 // again, since a processor cannot foresee which. A write races with either; where it does with neither, it is the last one. Most do: so
 // one test for both.
-// requires: the places show the events before this one, the record has not raced, and the engine has told the truth about the two.
+// requires: the places have the record's entries and show the events before this one, the record has not raced, and the engine has told
+// the truth about the two.
 pub fn access(
     places: &mut [u32],
     kind: Kind,
@@ -65,9 +69,13 @@ pub fn access(
             if wrote {
                 return Met::First(wide(places[r]));
             }
-            let event = pick(stood, places[8192 + r], at as u32);
-            let held = pick(stood, places[12288 + r], strand as u32);
-            put(places, 8192 + r, event, held);
+            let event = pick(stood, places[STANDING_READS + r], at as u32);
+            let held = pick(
+                stood,
+                places[STANDING_READS + ITS_STRAND + r],
+                strand as u32,
+            );
+            put(places, STANDING_READS + r, event, held);
             Met::Nothing
         }
         Kind::Write => {
@@ -75,7 +83,7 @@ pub fn access(
                 if wrote {
                     return Met::First(wide(places[r]));
                 }
-                return Met::First(wide(places[8192 + r]));
+                return Met::First(wide(places[STANDING_READS + r]));
             }
             put(places, r, at as u32, strand as u32);
             Met::Nothing
@@ -89,7 +97,7 @@ fn put(places: &mut [u32], at: usize, event: u32, strand: u32)
     ensures { λ _. ⌜ now (places .exit) ≡ put (now (places .entry)) at 4096 event strand ⌝ }
 {
     places[at] = event;
-    places[at + 4096] = strand;
+    places[at + ITS_STRAND] = strand;
 }
 
 fn pick(first: bool, a: u32, b: u32) -> u32

@@ -44,6 +44,9 @@ pick-requires c κs = search needs
 add-pick-2 : tie.Need-add-pick-2
 add-pick-2 c = search needs
 
+add-pick-3 : tie.Need-add-pick-3
+add-pick-3 c = search needs
+
 mul-pick-2 : tie.Need-mul-pick-2
 mul-pick-2 c = search needs
 
@@ -142,6 +145,7 @@ access-spec =
     cast-pick
     pick-requires
     add-pick-2
+    add-pick-3
     mul-pick-2
     slice-read-pick-2
     cast-pick-2

@@ -13,6 +13,9 @@ empty-requires-2 c κs = search needs
 empty-requires-3 : tie.Need-empty-requires-3
 empty-requires-3 c κs = search needs
 
+add-empty : tie.Need-add-empty
+add-empty c = search needs
+
 empty-requires-4 : tie.Need-empty-requires-4
 empty-requires-4 c κs = search needs
 
@@ -35,6 +38,7 @@ clear-spec =
     empty-requires
     empty-requires-2
     empty-requires-3
+    add-empty
     empty-requires-4
     same-length
     returns)
