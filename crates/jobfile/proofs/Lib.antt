@@ -5,4 +5,4 @@ pub mod Turns
 pub mod Whole
 pub mod Told
 pub mod Accepted
-pub mod Cases
+pub mod Limits
