@@ -2,9 +2,10 @@
 use mathlib.Core.Path.{_≡_, refl}
 use mathlib.Core.List.{List, [], _∷_, map}
 use Prim.Native.Nat.{ℕ}
-use lib.ListN.{length, getD}
+use lib.ListN.{length}
 use Rattle.jobfile.specs.Trace.{moves, tasksAt, begunAt}
 use Rattle.jobfile.specs.Events.{accessOf}
+use Rattle.jobfile.specs.Samples.{listed, starred as cases}
 use Rattle.jobfile.specs.declared.event.Event.{Event}
 use Rattle.jobfile.specs.declared.event.Event.the-variants.{Spawn as S, End as E, Sync as J, Read as R, Write as W}
 use Rattle.relation.specs.Walk.{opened, moveAt, walkFor, walk}
@@ -15,10 +16,6 @@ use Rattle.races.specs.Records.{Pair, pair, Verdict, clean, race, races,
 use Rattle.races.specs.Mark.{actOf, rules, traceOf}
 use Rattle.races.specs.Named.{verdict, stopAt}
 
--- a list as a trace; what stands behind its end is never asked
-abbrev pub listed : List Event → ℕ → Event
-listed events n = getD events n J
-
 pub record Answer : Type 0 where
   pub answer : Verdict
   pub strands : ℕ
@@ -28,21 +25,6 @@ judged events = record {
   answer = verdict (listed events) (length events);
   strands = begunAt (moves (listed events)) (stopAt (listed events) (length events));
 }
-
--- the starred cases, 1 to 10
-abbrev pub cases : List (List Event)
-cases =
-    []
-    ∷ (W 0 ∷ R 0 ∷ [])
-    ∷ (S ∷ W 0 ∷ E ∷ W 0 ∷ [])
-    ∷ (S ∷ W 0 ∷ E ∷ J ∷ W 0 ∷ [])
-    ∷ (S ∷ R 0 ∷ E ∷ R 0 ∷ W 0 ∷ [])
-    ∷ (S ∷ R 0 ∷ W 0 ∷ E ∷ W 0 ∷ [])
-    ∷ (S ∷ W 0 ∷ E ∷ S ∷ W 0 ∷ E ∷ [])
-    ∷ (S ∷ W 0 ∷ E ∷ J ∷ S ∷ W 0 ∷ E ∷ [])
-    ∷ (S ∷ S ∷ W 0 ∷ E ∷ J ∷ E ∷ W 0 ∷ [])
-    ∷ (S ∷ W 0 ∷ E ∷ S ∷ J ∷ W 0 ∷ E ∷ [])
-    ∷ []
 
 abbrev pub answers : List Answer
 answers =
