@@ -5,5 +5,5 @@ pub mod Turns
 pub mod Whole
 pub mod Told
 pub mod Accepted
-pub mod Cases
 pub mod Accesses
+pub mod Limits

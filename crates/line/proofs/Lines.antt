@@ -7,6 +7,7 @@ use Rattle.jobfile.specs.Trace.{eventAt, tasksAt, begunAt}
 use Rattle.jobfile.specs.Trailer.{wordAt, startsWith, printable, trailerFault, headNamed, headSized, headOf}
 use Rattle.jobfile.specs.Tasks.{taskFault, recordFault, stepOn, moveOn, finish, traceFrom}
 use Rattle.jobfile.specs.File.{checkOf}
+use Rattle.jobfile.specs.Samples.{l4}
 use Rattle.relation.specs.Walk.{opened, moveAt, walkFor, walk}
 use Rattle.orders.specs.Order.{insertAfter, differ}
 use Rattle.orders.specs.Model.{ceiling, limit, gapAt, hasRoom, middle, spread, insertLab, insertState, diffs, insertCount}
@@ -18,24 +19,6 @@ use Rattle.races.specs.Records.{races, raced, racedAny, verdictIn, stopIn}
 use Rattle.judging.specs.Answers.{judgedOf, noRoom, judgeFault, judgeOf}
 use Rattle.line.specs.Text.{ascii, digitsWithin, digitsOf, pairText, kindsText, countsText, nameText, refusalText}
 use Rattle.line.specs.Line.{lineOf}
-
--- the whole file `L4`, events W0 S R0 W1 E R0 W1 J
-abbrev pub fileL4 : List ℕ
-fileL4 =
-    0x4C ∷ 0x34
-    ∷ 0x05 ∷ 0x00 ∷ 0x00 ∷ 0x00
-    ∷ 0x01 ∷ 0x00 ∷ 0x00 ∷ 0x00
-    ∷ 0x04 ∷ 0x00 ∷ 0x00 ∷ 0x00
-    ∷ 0x05 ∷ 0x00 ∷ 0x01 ∷ 0x00
-    ∷ 0x02 ∷ 0x00 ∷ 0x00 ∷ 0x00
-    ∷ 0x04 ∷ 0x00 ∷ 0x00 ∷ 0x00
-    ∷ 0x05 ∷ 0x00 ∷ 0x01 ∷ 0x00
-    ∷ 0x03 ∷ 0x00 ∷ 0x00 ∷ 0x00
-    ∷ 0x20 ∷ 0x00 ∷ 0x00 ∷ 0x00
-    ∷ 0x08 ∷ 0x00 ∷ 0x00 ∷ 0x00
-    ∷ 0x02 ∷ 0x00 ∷ 0x00 ∷ 0x00
-    ∷ 0x56 ∷ 0x4A ∷ 0x54 ∷ 0x31
-    ∷ []
 
 -- a job with no name and no events, of one record
 abbrev pub emptyJob : List ℕ
@@ -59,7 +42,7 @@ case5 =
 abbrev pub lines : List (List ℕ) → List (List ℕ)
 lines = map (λ (input : List ℕ). lineOf input 8192 16384 16384)
 
-pub small-lines : lines (fileL4 ∷ case5 ∷ emptyJob ∷ [] ∷ [])
+pub small-lines : lines (l4 ∷ case5 ∷ emptyJob ∷ [] ∷ [])
     ≡ (ascii "race record 1 first 3 second 6 kinds WW strands 3 english 3 hebrew 3 name L4\n"
     ∷ ascii "race record 0 first 1 second 4 kinds RW strands 3 english 3 hebrew 3 name \n"
     ∷ ascii "clean strands 1 english 1 hebrew 1 name \n"

@@ -1,6 +1,7 @@
 -- The parts of an input that its line speaks of: the events are as many as are judged, a pair is among them, and the name is short.
 -- Assumes nothing.
-use Prim.Native.Nat.{ℕ, _*_, _/_, _≤_}
+use Prim.Native.Nat.{ℕ, _+_, _*_, _-_, _≤_}
+use native.Mathlib.Nat.{add-sub-cancel-left}
 use native.Mathlib.Omega.{arith}
 use mathlib.Core.Path.{_≡_, refl, _∙_}
 use mathlib.Core.Bool.{Bool, true, false, cond}
@@ -11,6 +12,8 @@ use lib.Seq.{length-take-le}
 use Rattle.jobfile.specs.Refusals.{refusalOf}
 use Rattle.jobfile.specs.Trace.{eventAt}
 use Rattle.jobfile.specs.File.{checkOf, nameLength, eventCount, eventsFrom, eventPart}
+use Rattle.jobfile.specs.declared.Job.{Job}
+use Rattle.jobfile.specs.declared.refusal.Refusal.{Refusal}
 use Rattle.jobfile.specs.declared.Checked.{Checked}
 use Rattle.jobfile.specs.declared.Checked.the-variants.{Accepted, Refused as Unread}
 use Rattle.jobfile.proofs.Whole.{accepted-fits, accepted}
@@ -18,9 +21,10 @@ use Rattle.races.specs.Records.{Verdict, clean, race}
 use Rattle.races.specs.Named.{verdict}
 use Rattle.races.proofs.Named.{verdict-race}
 use Rattle.judging.specs.Answers.{answerWith, judgedOf, judgeFault, afterCheck, judgeOf}
+use Rattle.judging.specs.Buffers.{Leaves}
 use Rattle.judging.specs.declared.Answer.{Answer}
 use Rattle.judging.specs.declared.Answer.the-variants.{Refused}
-use Rattle.line.specs.Text.{answerText, PairWithin}
+use Rattle.line.specs.Text.{refusalText, answerText, PairWithin}
 use Rattle.line.specs.Line.{answerOf, lineOf}
 
 module _ (file : List ℕ) where
@@ -33,13 +37,6 @@ module _ (file : List ℕ) where
           let f = accepted-fits file j e in
           length-take-le (4 * j .events) (drop (j .start) file) (omega (arith, length-drop (j .start) file))
       go (Unread r) e = refl
-
-  pub name-short : nameLength (checkOf file) ≤ 64
-  name-short = go (checkOf file) refl
-    where
-      go : (c : Checked) → checkOf file ≡ c → nameLength c ≤ 64
-      go (Accepted j) e = accepted-fits file j e .0
-      go (Unread r) e = omega arith
 
   pub pair-within : (labels links places : ℕ) → PairWithin (answerOf file labels links places) (4 * eventCount (checkOf file))
   unfolding judgeOf judgedOf
@@ -59,26 +56,43 @@ module _ (file : List ℕ) where
           by true = named (verdict (eventAt (eventsFrom file (j .start) (j .events))) (j .events)) _ _ _ refl
           by false = tt
 
--- what is known of the answer a for the event part that the reader gives
-pub record Answered (input : List ℕ) (labels links places : ℕ) (a : Answer) (part : List ℕ) : Type 0 where
-  pub all : length part / 4 ≡ eventCount (checkOf input)
-  pub answer : a ≡ answerOf input labels links places
-  pub pair : PairWithin a (length part)
-  pub line : (name : List ℕ) → name ≡ take (nameLength (checkOf input)) input → answerText a part name ≡ lineOf input labels links places
+-- an input that the check refuses: its line is the refusal's
+pub refused-line : (input : List ℕ) (labels links places : ℕ) (r : Refusal) → checkOf input ≡ Unread r
+    → (answerOf input labels links places ≡ Refused r) × (refusalText r ≡ lineOf input labels links places)
+unfolding lineOf judgeOf
+refused-line input labels links places r e = rw e (refl, refl)
 
-pub answered : (input : List ℕ) (labels links places : ℕ) (a : Answer) (part : List ℕ) → part ≡ eventPart input
-    → a ≡ judgeOf input (length part / 4) labels links places → Answered input labels links places a part
-unfolding lineOf
-answered input labels links places a part events judged =
-    let all : length part / 4 ≡ eventCount (checkOf input) = rw events (omega (arith, events-size input)) in
-    let answer : a ≡ answerOf input labels links places = judged ∙ rw all in
-    record {
-      all = all;
-      answer = answer;
-      pair = rw (answer, events, events-size input) (pair-within input labels links places);
-      line = λ name e. rw (answer, events, e);
-    }
+-- and nothing is stored
+pub leaves-none : (input : List ℕ) (labels links places : ℕ) (r : Refusal) → checkOf input ≡ Unread r → (L K P : List ℕ)
+    → Leaves (answerOf input labels links places) input (eventCount (checkOf input)) L K P L K P
+leaves-none input labels links places r e L K P = rw (refused-line input labels links places r e .0) (refl, refl, refl)
 
 -- the name is at most 64 bytes
-pub name-size : (input name : List ℕ) → name ≡ take (nameLength (checkOf input)) input → length name ≤ 64
-name-size input name e = rw (e, length-take) (omega (arith, name-short input))
+pub start-short : (input : List ℕ) (job : Job) → checkOf input ≡ Accepted job → length (take (job .start) input) ≤ 64
+start-short input job ok = rw length-take (omega (arith, accepted-fits input job ok .0))
+
+-- an input that it accepts: what is known of the answer a for all its events
+module _ (input : List ℕ) (labels links places : ℕ) (job : Job) (ok : checkOf input ≡ Accepted job) (a : Answer)
+    (judged : a ≡ judgeOf input (job .events) labels links places) where
+  pub all-judged : a ≡ answerOf input labels links places
+  all-judged = judged ∙ rw ok
+
+  -- the events as the part from the start to the end that the code works out
+  part-same : take (job .start + 4 * job .events - job .start) (drop (job .start) input) ≡ eventPart input
+  part-same = rw (ok, add-sub-cancel-left (job .start) (4 * job .events))
+
+  pub pair-there : PairWithin a (length (take (job .start + 4 * job .events - job .start) (drop (job .start) input)))
+  pair-there = rw (all-judged, part-same, events-size input) (pair-within input labels links places)
+
+  pub line-is : answerText a (take (job .start + 4 * job .events - job .start) (drop (job .start) input)) (take (job .start) input)
+      ≡ lineOf input labels links places
+  unfolding lineOf
+  line-is =
+      let name : take (job .start) input ≡ take (nameLength (checkOf input)) input = rw ok in
+      rw (all-judged, part-same, name)
+
+  pub leaves-all : (L₀ K₀ P₀ L K P : List ℕ) → Leaves a input (job .events) L₀ K₀ P₀ L K P
+      → Leaves (answerOf input labels links places) input (eventCount (checkOf input)) L₀ K₀ P₀ L K P
+  leaves-all L₀ K₀ P₀ L K P S =
+      let count : job .events ≡ eventCount (checkOf input) = rw ok in
+      rw (← all-judged, ← count) S

@@ -3,8 +3,8 @@ use Prim.Native.Nat.{ℕ, _+_, _≤_, _<_}
 use native.Mathlib.Omega.{arith}
 use native.Mathlib.Nat.{zero-add}
 use native.Mathlib.Numerals.{add-one}
-use mathlib.Core.Path.{_≡_, sym, _∙_}
-use mathlib.Core.List.{List, _++_, append-assoc}
+use mathlib.Core.Path.{_≡_, refl, sym, _∙_}
+use mathlib.Core.List.{List, [], _++_, append-assoc, append-nil}
 use lib.ListN.{length, take, drop, set, getD, length-append, take-append-drop}
 use lib.Seq.{paste, paste-suc, take-paste, drop-paste, take-length, drop-drop}
 use Rattle.line.specs.Put.{Put}
@@ -41,3 +41,7 @@ put-whole {a} {b} {x} {at} {n} p = sym (take-append-drop n b) ∙ rw (p .front, 
 -- how many bytes stand from the start on
 pub put-counted : {a b x : List ℕ} {n : ℕ} → Put a 0 x n b → n ≡ length (take n b)
 put-counted p = p .count ∙ rw (p .front, zero-add)
+
+-- nothing put
+pub put-none : (out : List ℕ) (at : ℕ) → Put out at [] at out
+put-none out at = record { front = sym (append-nil (take at out)); rest = refl; count = omega arith }

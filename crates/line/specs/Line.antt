@@ -1,5 +1,5 @@
 -- The one line that the program prints, byte by byte, as a function of the input's bytes; and what `line` gives and leaves.
-use Prim.Native.Nat.{ℕ, _<_}
+use Prim.Native.Nat.{ℕ, _≤_, _<_}
 use mathlib.Core.Path.{_≡_}
 use mathlib.Core.Bool.{cond}
 use mathlib.Core.List.{List, _++_}
@@ -11,6 +11,7 @@ use Rattle.judging.specs.Answers.{judgeOf}
 use Rattle.judging.specs.Buffers.{Leaves}
 use Rattle.judging.specs.declared.Answer.{Answer}
 use Rattle.line.specs.Text.{answerText}
+use Rattle.line.specs.Put.{Put}
 use Rattle.line.specs.declared.Lined.{Lined}
 use Rattle.line.specs.declared.Lined.the-variants.{Bytes, Short}
 
@@ -39,4 +40,10 @@ LineFits Short out = length out < 256
 pub record LineGives (input L₀ K₀ P₀ out₀ : List ℕ) (r : Lined) (L K P out : List ℕ) : Type 0 where
   pub answer : r ≡ linedOf (lineOf input (length L₀) (length K₀) (length P₀)) (length out₀)
   pub output : out ≡ outOf (lineOf input (length L₀) (length K₀) (length P₀)) out₀
+  pub buffers : Leaves (answerOf input (length L₀) (length K₀) (length P₀)) input (eventCount (checkOf input)) L₀ K₀ P₀ L K P
+
+-- What is put into a text of at least 256 bytes: the line, whose bytes are as many as n says; and what is left in the work buffers.
+pub record TextGives (input L₀ K₀ P₀ text₀ : List ℕ) (n : ℕ) (L K P text : List ℕ) : Type 0 where
+  pub line : Put text₀ 0 (lineOf input (length L₀) (length K₀) (length P₀)) n text
+  pub fits : n ≤ 256
   pub buffers : Leaves (answerOf input (length L₀) (length K₀) (length P₀)) input (eventCount (checkOf input)) L₀ K₀ P₀ L K P

@@ -6,8 +6,10 @@ use mathlib.Core.Bool.{cond}
 use mathlib.Core.List.{List, [], _∷_, _++_}
 use lib.Dec.{ltb}
 use Rattle.jobfile.specs.Trace.{eventAt}
-use Rattle.jobfile.specs.declared.event.Event.{Event}
-use Rattle.jobfile.specs.declared.event.Event.the-variants.{Spawn, End, Sync, Read, Write}
+use Rattle.jobfile.specs.Events.{accessOf}
+use Rattle.jobfile.specs.declared.event.Kind.the-variants.{Write, Read}
+use Rattle.jobfile.specs.declared.event.Access.{Access}
+use Rattle.jobfile.specs.declared.event.Access.the-variants.{None, To}
 use Rattle.jobfile.specs.declared.refusal.Refusal.{Refusal}
 use Rattle.judging.specs.declared.Answer.{Answer}
 use Rattle.judging.specs.declared.Answer.the-variants.{Clean, Race, Refused}
@@ -27,21 +29,19 @@ digitsWithin (suc most) n = cond (ltb n 10) ((48 + n) ∷ []) (digitsWithin most
 abbrev pub digitsOf : ℕ → List ℕ
 digitsOf n = digitsWithin 20 n
 
--- "the kinds of both accesses": R or W; an event that is no access, which no race names, stands as R
-abbrev pub letterOf : Event → ℕ
-letterOf Spawn = 82
-letterOf End = 82
-letterOf Sync = 82
-letterOf (Read r) = 82
-letterOf (Write r) = 87
+-- "the kinds of both accesses": R or W; an event that is no access has no letter
+abbrev pub letterOf : Access → List ℕ
+letterOf None = []
+letterOf (To Read r) = 82 ∷ []
+letterOf (To Write r) = 87 ∷ []
 
 -- The parts of a line.
 unfoldable pub pairText : ℕ → ℕ → ℕ → List ℕ
 pairText number first second =
     ascii "race record " ++ digitsOf number ++ (ascii " first " ++ digitsOf first ++ (ascii " second " ++ digitsOf second))
 
-unfoldable pub kindsText : Event → Event → List ℕ
-kindsText e f = ascii " kinds " ++ (letterOf e ∷ letterOf f ∷ [])
+unfoldable pub kindsText : Access → Access → List ℕ
+kindsText a b = ascii " kinds " ++ (letterOf a ++ letterOf b)
 
 unfoldable pub countsText : ℕ → ℕ → ℕ → List ℕ
 countsText strands english hebrew =
@@ -59,7 +59,7 @@ cleanText strands english hebrew name = ascii "clean" ++ (countsText strands eng
 -- `race record R first I second J kinds XY strands S english A hebrew B name N`
 abbrev pub raceText : ℕ → ℕ → ℕ → ℕ → ℕ → ℕ → List ℕ → List ℕ → List ℕ
 raceText first second number strands english hebrew events name =
-    pairText number first second ++ (kindsText (eventAt events first) (eventAt events second) ++ (countsText strands english hebrew ++ nameText name))
+    pairText number first second ++ (kindsText (accessOf (eventAt events first)) (accessOf (eventAt events second)) ++ (countsText strands english hebrew ++ nameText name))
 
 -- "a refusal is `refused N event K`"
 unfoldable pub refusalText : Refusal → List ℕ

@@ -2,24 +2,30 @@
 ghost use mathlib.Core.Path.{_≡_};
 ghost use Prim.Native.Nat.{_+_, _*_, _≤_};
 ghost use lib.ListN.{length};
+ghost use Rattle.jobfile.specs.Events.{accessOf};
 ghost use Rattle.jobfile.specs.Trace.{eventAt};
 ghost use Rattle.line.specs.Text.{letterOf, pairText, kindsText, countsText, nameText, cleanText, raceText, refusalText, answerText, PairWithin};
 ghost use Rattle.line.specs.Put.{Put};
 use crate::text::field;
 use crate::text::put;
-use jobfile::Event;
+use jobfile::Access;
+use jobfile::Kind;
 use jobfile::Refusal;
 use judging::Answer;
 
-fn letter(e: Event) -> u8
-    ensures { λ r. ⌜ r ≡ letterOf e ⌝ }
+// The letter of an access; an event that is none has no letter.
+// requires: there is room for it.
+fn letter(out: &mut [u8], at: usize, access: Access) -> usize
+    requires { ⌜ at + 1 ≤ length (now out) ⌝ }
+    ensures { λ r. ⌜ Put (now (out .entry)) at (letterOf access) r (now (out .exit)) ⌝ }
+    ensures { λ r. ⌜ r ≤ at + 1 ⌝ }
 {
-    match e {
-        Event::Write(_) => b'W',
-        Event::Read(_) => b'R',
-        Event::Spawn => b'R',
-        Event::End => b'R',
-        Event::Sync => b'R',
+    match access {
+        Access::To { kind, record: _ } => match kind {
+            Kind::Write => put(out, at, b"W"),
+            Kind::Read => put(out, at, b"R"),
+        },
+        Access::None => at,
     }
 }
 
@@ -39,13 +45,14 @@ fn kinds(out: &mut [u8], at: usize, events: &[u8], first: usize, second: usize) 
     requires { ⌜ at + 9 ≤ length (now out) ⌝ }
     requires { ⌜ 4 * first + 4 ≤ length (now events) ⌝ }
     requires { ⌜ 4 * second + 4 ≤ length (now events) ⌝ }
-    ensures { λ r. ⌜ Put (now (out .entry)) at (kindsText (eventAt (now (events .entry)) first) (eventAt (now (events .entry)) second)) r (now (out .exit)) ⌝ }
+    ensures { λ r. ⌜ Put (now (out .entry)) at (kindsText (accessOf (eventAt (now (events .entry)) first)) (accessOf (eventAt (now (events .entry)) second))) r (now (out .exit)) ⌝ }
     ensures { λ r. ⌜ r ≤ at + 9 ⌝ }
 {
-    let x = letter(jobfile::event_at(events, first));
-    let y = letter(jobfile::event_at(events, second));
-    let next = put(out, at, b" kinds ");
-    put(out, next, &[x, y])
+    let a = jobfile::access_of(jobfile::event_at(events, first));
+    let b = jobfile::access_of(jobfile::event_at(events, second));
+    let word = put(out, at, b" kinds ");
+    let one = letter(out, word, a);
+    letter(out, one, b)
 }
 
 // requires: there is room for three words and three numbers.
@@ -71,7 +78,7 @@ fn ending(out: &mut [u8], at: usize, name: &[u8]) -> usize
 }
 
 // requires: there is room for two words, two numbers and a line feed.
-fn refusal(out: &mut [u8], refused: Refusal) -> usize
+pub fn refusal(out: &mut [u8], refused: Refusal) -> usize
     requires { ⌜ 56 ≤ length (now out) ⌝ }
     ensures { λ r. ⌜ Put (now (out .entry)) 0 (refusalText refused) r (now (out .exit)) ⌝ }
     ensures { λ r. ⌜ r ≤ 56 ⌝ }

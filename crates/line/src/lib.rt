@@ -8,7 +8,12 @@ mod text;
 ghost use mathlib.Core.Path.{_≡_};
 ghost use Prim.Native.Nat.{_≤_};
 ghost use lib.ListN.{length};
-ghost use Rattle.line.specs.Line.{linedOf, outOf, LineFits, LineGives};
+ghost use Rattle.jobfile.specs.File.{checkOf};
+ghost use Rattle.jobfile.specs.Lent.{was, is};
+ghost use Rattle.jobfile.specs.declared.Checked.the-variants.{Accepted};
+ghost use Rattle.line.specs.Line.{linedOf, outOf, LineFits, LineGives, TextGives};
+use jobfile::Checked;
+use jobfile::Job;
 use text::put;
 
 // How many bytes the line has; or that the output is shorter than it.
@@ -26,14 +31,52 @@ pub fn line(
     places: &mut [u32],
     out: &mut [u8],
 ) -> Lined
-    ensures { λ r. ⌜ LineGives (now (input .entry)) (now (labels .entry)) (now (links .entry)) (now (places .entry)) (now (out .entry)) r (now (labels .exit)) (now (links .exit)) (now (places .exit)) (now (out .exit)) ⌝ }
-    ensures { λ r. ⌜ LineFits r (now (out .exit)) ⌝ }
+    ensures { λ r. ⌜ LineGives (was input) (was labels) (was links) (was places) (was out) r (is labels) (is links) (is places) (is out) ⌝ }
+    ensures { λ r. ⌜ LineFits r (is out) ⌝ }
 {
-    let events = jobfile::events(input);
-    let answer = judging::judge(input, events.len() / 4, labels, links, places);
     let mut text = [0u8; 256];
-    let n = answers::answer(&mut text, answer, events, jobfile::name(input));
+    let n = text_of(&mut text, input, labels, links, places);
     deliver(&text[..n], out)
+}
+
+// The line at the start of a buffer that has room for every line. The events are walked twice: by the check, and by judging.
+// requires: there is room for the longest line.
+fn text_of(
+    text: &mut [u8],
+    input: &[u8],
+    labels: &mut [u64],
+    links: &mut [u16],
+    places: &mut [u32],
+) -> usize
+    requires { ⌜ 256 ≤ length (now text) ⌝ }
+    ensures { λ n. ⌜ TextGives (was input) (was labels) (was links) (was places) (was text) n (is labels) (is links) (is places) (is text) ⌝ }
+{
+    match jobfile::check(input) {
+        Checked::Refused(r) => answers::refusal(text, r),
+        Checked::Accepted(job) => judged(text, input, job, labels, links, places),
+    }
+}
+
+// The same for an input that has been checked.
+// requires: as `text_of`, and the job is what the check of this very input gives.
+fn judged(
+    text: &mut [u8],
+    input: &[u8],
+    job: Job,
+    labels: &mut [u64],
+    links: &mut [u16],
+    places: &mut [u32],
+) -> usize
+    requires { ⌜ 256 ≤ length (now text) ⌝ }
+    requires { ⌜ checkOf (now input) ≡ Accepted job ⌝ }
+    ensures { λ n. ⌜ TextGives (was input) (was labels) (was links) (was places) (was text) n (is labels) (is links) (is places) (is text) ⌝ }
+{
+    let start = job.start;
+    let end = start + 4 * job.events;
+    let events = &input[start..end];
+    let name = &input[..start];
+    let answer = judging::judge_job(input, job, job.events, labels, links, places);
+    answers::answer(text, answer, events, name)
 }
 
 // The bytes at the start of the output, or nothing where they do not fit.

@@ -1,10 +1,12 @@
--- The starred small jobs, one list, proved together by computation: the verdict and the strands begun. Assumes nothing.
+-- Small jobs by computation: the starred ones, one list, with the strands begun; ones that a slip in a rule would answer otherwise; each
+-- record's own pair. Assumes nothing.
 use mathlib.Core.Path.{_≡_, refl}
 use mathlib.Core.List.{List, [], _∷_, map}
 use Prim.Native.Nat.{ℕ}
-use lib.ListN.{length, getD}
+use lib.ListN.{length}
 use Rattle.jobfile.specs.Trace.{moves, tasksAt, begunAt}
 use Rattle.jobfile.specs.Events.{accessOf}
+use Rattle.jobfile.specs.Samples.{listed, starred as cases}
 use Rattle.jobfile.specs.declared.event.Event.{Event}
 use Rattle.jobfile.specs.declared.event.Event.the-variants.{Spawn as S, End as E, Sync as J, Read as R, Write as W}
 use Rattle.relation.specs.Walk.{opened, moveAt, walkFor, walk}
@@ -15,10 +17,6 @@ use Rattle.races.specs.Records.{pair, Verdict, clean, race, races, raced
 use Rattle.races.specs.Mark.{actOf, rules, eventTrace}
 use Rattle.races.specs.Named.{verdict, stopAt}
 
--- a list as a trace; what stands behind its end is never asked
-abbrev pub listed : List Event → ℕ → Event
-listed events n = getD events n J
-
 pub record Outcome : Type 0 where
   pub verdict-is : Verdict
   pub strands : ℕ
@@ -28,21 +26,6 @@ outcome events = record {
   verdict-is = verdict (listed events) (length events);
   strands = begunAt (moves (listed events)) (stopAt (listed events) (length events));
 }
-
--- the starred cases, 1 to 10
-abbrev pub cases : List (List Event)
-cases =
-    []
-    ∷ (W 0 ∷ R 0 ∷ [])
-    ∷ (S ∷ W 0 ∷ E ∷ W 0 ∷ [])
-    ∷ (S ∷ W 0 ∷ E ∷ J ∷ W 0 ∷ [])
-    ∷ (S ∷ R 0 ∷ E ∷ R 0 ∷ W 0 ∷ [])
-    ∷ (S ∷ R 0 ∷ W 0 ∷ E ∷ W 0 ∷ [])
-    ∷ (S ∷ W 0 ∷ E ∷ S ∷ W 0 ∷ E ∷ [])
-    ∷ (S ∷ W 0 ∷ E ∷ J ∷ S ∷ W 0 ∷ E ∷ [])
-    ∷ (S ∷ S ∷ W 0 ∷ E ∷ J ∷ E ∷ W 0 ∷ [])
-    ∷ (S ∷ W 0 ∷ E ∷ S ∷ J ∷ W 0 ∷ E ∷ [])
-    ∷ []
 
 abbrev pub outcomes : List Outcome
 outcomes =
@@ -62,7 +45,7 @@ pub starred-cases : map outcome cases ≡ outcomes
 unfolding tasksAt begunAt opened moveAt walkFor walk any least races raced heldOf firstOf racedAny verdictIn stopIn
 starred-cases = refl
 
--- Small jobs that a slip in a rule would verdict-is otherwise, outcome by trying every pair and by asking the two places.
+-- Small jobs that a slip in a rule would answer otherwise, judged by trying every pair and by asking the two places.
 abbrev byPairs : List Event → Verdict
 byPairs events = verdict (listed events) (length events)
 

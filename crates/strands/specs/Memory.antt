@@ -1,9 +1,8 @@
--- What is kept between two events, as lists: the lent memory of both orders, and the arrays of the open tasks; and the same as the
--- references of a call have it, when it is made and when it returns.
+-- What is kept between two events, as lists: the lent memory of both orders, and the arrays of the open tasks, and the
+-- same as a call's references have it.
 use mathlib.Core.List.{List}
 use Prim.Native.Nat.{ℕ}
 use denote.Ref.{RefT}
-use denote.Triple.Both.{Both}
 
 pub record Memory : Type 0 where
   pub labels : List ℕ
@@ -13,10 +12,6 @@ pub record Memory : Type 0 where
 pub record OpenTasks : Type 0 where
   pub lasts : List ℕ
   pub joins : List ℕ
-
--- a reference that a call is lent, when the call is made and when it returns
-abbrev pub Lent : Type 0
-Lent = Both (RefT (List ℕ)) (RefT (List ℕ))
 
 abbrev pub memory : RefT (List ℕ) → RefT (List ℕ) → Memory
 memory labels links = record { labels = labels .now; links = links .now }

@@ -15,7 +15,8 @@ use Rattle.orders.specs.Marked.{Settled}
 use Rattle.orders.specs.InTurn.{InTurn}
 use Rattle.strands.specs.Cells.{Cell, cell, cells}
 use Rattle.strands.specs.States.{englishState, hebrewState, englishCount, hebrewCount}
-use Rattle.strands.specs.Memory.{Memory, OpenTasks, Lent, memory, tasks}
+use Rattle.jobfile.specs.Lent.{Lent}
+use Rattle.strands.specs.Memory.{Memory, OpenTasks, memory, tasks}
 use Rattle.strands.specs.declared.Now.{Now}
 
 -- 65,535 is none
