@@ -1,9 +1,8 @@
 -- The labels tell the truth about the places of a record that has not raced: so an access of it may be judged, whatever other records have
 -- met. Assumes nothing.
-use mathlib.Core.Path.{_≡_, refl, sym, ap, _∙_}
-use mathlib.Core.Logic.{_⊎_}
+use mathlib.Core.Path.{_≡_, refl, ap, _∙_}
 use mathlib.Core.List.{List}
-use mathlib.Core.Bool.{Bool, false}
+use mathlib.Core.Bool.{Bool}
 use mathlib.Core.Option.{none}
 use Prim.Native.Nat.{ℕ, zero, suc, _+_, _*_, _-_, _≤_, _<_}
 use native.Mathlib.Omega.{arith}
@@ -23,11 +22,11 @@ use Rattle.strands.specs.declared.Now.{Now}
 use Rattle.strands.proofs.States.{tells}
 use Rattle.races.specs.Places.{holds, parTo, held}
 use Rattle.races.specs.Records.{secondOf}
-use Rattle.races.specs.Entries.{Here}
+use Rattle.races.specs.Entries.{HasPlace}
 use Rattle.races.specs.Shown.{Arriving}
-use Rattle.races.specs.Mark.{rank, actOf, isWrite, rules, layout, two, traceOf}
+use Rattle.races.specs.Mark.{rank, actOf, rules, layout, two, eventTrace}
 use Rattle.races.proofs.Shown.{told-by}
-use Rattle.races.proofs.Mark.{laid}
+use Rattle.races.proofs.Mark.{places-laid}
 use Rattle.races.proofs.Named.{lawful, fit}
 use Rattle.judging.specs.Asking.{heldOr, heldAbove, Askable}
 use Rattle.judging.specs.Turns.{Run, Midway}
@@ -59,23 +58,23 @@ module _ {part : List ℕ} {records k : ℕ} {M₀ M : Memory} {P₀ P : List �
   }
 
   -- and what asking it answers
-  asked : (r c : ℕ) → Here layout records r c → secondOf rules (traceOf (eventAt part)) r i ≡ none
+  asked : (r c : ℕ) → HasPlace layout records r c → secondOf rules (eventTrace (eventAt part)) r i ≡ none
       → heldAbove (M .labels) P (8192 * c + r) (now .strands - 1)
-      ≡ holds (parTo (traceOf (eventAt part)) i) (held rules (traceOf (eventAt part)) r c i)
+      ≡ holds (parTo (eventTrace (eventAt part)) i) (held rules (eventTrace (eventAt part)) r c i)
   unfolding heldAbove heldOr
   asked r c here unraced =
       let L = M .labels in
       let s = now .strands - 1 in
-      told-by rules (traceOf (eventAt part)) layout records P₀ (lawful (eventAt part)) i P (S .shown) r c here unraced
+      told-by rules (eventTrace (eventAt part)) layout records P₀ (lawful (eventAt part)) i P (S .shown) r c here unraced
       (λ held. ltb (getD L (4096 + s) 0) (getD L (4096 + heldOr held s) 0))
       (le-ltb (getD L (4096 + s) 0) (getD L (4096 + s) 0) (omega arith))
       (λ m l.
       rw (lt-ltb (strandAt (moves (eventAt part)) m) 4096 (labelled m (omega arith)), strand-is)
       (tells (moves (eventAt part)) i M₀ M T now (S .reached) (run-rooted R i (omega arith)) m (omega arith)))
 
-  asked-both : (r : ℕ) → r < records → secondOf rules (traceOf (eventAt part)) r i ≡ none → (wrote stood : Bool)
+  asked-both : (r : ℕ) → r < records → secondOf rules (eventTrace (eventAt part)) r i ≡ none → (wrote stood : Bool)
       → wrote ≡ heldAbove (M .labels) P r (now .strands - 1) → stood ≡ heldAbove (M .labels) P (8192 + r) (now .strands - 1)
-      → (c : ℕ) → c < 2 → two wrote stood c ≡ holds (parTo (traceOf (eventAt part)) i) (held rules (traceOf (eventAt part)) r c i)
+      → (c : ℕ) → c < 2 → two wrote stood c ≡ holds (parTo (eventTrace (eventAt part)) i) (held rules (eventTrace (eventAt part)) r c i)
   asked-both r h unraced wrote stood w s zero l =
       let e : 8192 * 0 + r ≡ r = omega arith in
       w ∙ (rw e at (asked r 0 (record { on-record = h; below = l }) unraced))
@@ -85,9 +84,9 @@ module _ {part : List ℕ} {records k : ℕ} {M₀ M : Memory} {P₀ P : List �
   asked-both r h unraced wrote stood w s (suc (suc c)) l = absurd (omega arith)
 
   -- so the next event, if it is an access to a record that has not raced, may be judged
-  pub arriving : (kind : Kind) (r : ℕ) → accessOf (eventAt part i) ≡ To kind r → secondOf rules (traceOf (eventAt part)) r i ≡ none
+  pub arriving : (kind : Kind) (r : ℕ) → accessOf (eventAt part i) ≡ To kind r → secondOf rules (eventTrace (eventAt part)) r i ≡ none
       → (wrote stood : Bool) → wrote ≡ heldAbove (M .labels) P r (now .strands - 1) → stood ≡ heldAbove (M .labels) P (8192 + r) (now .strands - 1)
-      → Arriving rules (traceOf (eventAt part)) layout i records P₀ P r (rank kind) i (now .strands - 1) (two wrote stood)
+      → Arriving rules (eventTrace (eventAt part)) layout i records P₀ P r (rank kind) i (now .strands - 1) (two wrote stood)
   arriving kind r e unraced wrote stood w s = record {
     facing = record {
       law = lawful (eventAt part);
@@ -97,7 +96,7 @@ module _ {part : List ℕ} {records k : ℕ} {M₀ M : Memory} {P₀ P : List �
       tells = λ c l z. asked-both r (on-record kind r e) unraced wrote stood w s c l;
     };
     shown = S .shown;
-    laid = laid records (length P) (R .records-fit) (S .places-room);
+    laid = places-laid records (length P) (R .records-fit) (S .places-room);
     on-record = on-record kind r e;
     number = refl;
     number-fits = omega (arith, R .within, R .small);

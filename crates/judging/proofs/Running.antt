@@ -12,7 +12,7 @@ use Rattle.strands.specs.Reached.{Reached}
 use Rattle.strands.specs.declared.Now.{Now}
 use Rattle.races.specs.Records.{Verdict, clean, race, secondIn}
 use Rattle.races.specs.Entries.{Empty}
-use Rattle.races.specs.Mark.{rules, layout, traceOf}
+use Rattle.races.specs.Mark.{rules, layout, eventTrace}
 use Rattle.races.specs.Named.{verdict, stopAt}
 use Rattle.races.proofs.Shown.{shown-start}
 use Rattle.races.proofs.OneRace.{none-second, clean-all}
@@ -26,10 +26,10 @@ use Rattle.judging.specs.Turns.{Midway, Unraced, Turned}
 pub starts : (part : List ℕ) (records : ℕ) (M₀ M : Memory) (P₀ P : List ℕ) (T : OpenTasks) (now : Now) → Reached (moves (eventAt part)) 0 M₀ M T now
     → Empty layout records P₀ P → 16384 ≤ length P₀ → Unraced part records M₀ P₀ M T P now 0
 starts part records M₀ M P₀ P T now S empty room =
-    let shown = shown-start rules (traceOf (eventAt part)) layout records P₀ P (empty (traceOf (eventAt part) .strand)) in
+    let shown = shown-start rules (eventTrace (eventAt part)) layout records P₀ P (empty (eventTrace (eventAt part) .strand)) in
     record {
       midway = record { reached = S; shown = shown; places-room = omega (arith, shown .size) };
-      none-raced = none-second rules (traceOf (eventAt part));
+      none-raced = none-second rules (eventTrace (eventAt part));
     }
 
 -- the numbers of the state before event i are those of the answer, and the buffers show it, if judging stops there
@@ -50,8 +50,8 @@ pub ends-clean : {part : List ℕ} {records : ℕ} {M₀ M : Memory} {P₀ P : L
     × Shows (eventAt part) (stopAt (eventAt part) k) records (M₀ .labels) (M₀ .links) P₀ (M .labels) (M .links) P
 ends-clean {part = part} {i = i} k U h g =
     let e : i ≡ k = omega arith in
-    let q : secondIn rules (traceOf (eventAt part)) k ≡ none = rw e at (U .none-raced) in
-    let c = clean-all rules (traceOf (eventAt part)) k q in
+    let q : secondIn rules (eventTrace (eventAt part)) k ≡ none = rw e at (U .none-raced) in
+    let c = clean-all rules (eventTrace (eventAt part)) k q in
     answered k clean (U .midway) (c .0) (c .1 ∙ sym e)
 
 -- event i is the second of the race

@@ -1,12 +1,11 @@
 -- One event of the run: an access that finds something is the second of the race, any other one goes into a place or changes none, and an
 -- event that is no access is behind once its strand has begun. Assumes nothing.
-use mathlib.Core.Path.{_≡_, refl, sym, ap, _∙_}
+use mathlib.Core.Path.{_≡_, refl, ap}
 use mathlib.Core.List.{List}
 use mathlib.Core.Bool.{Bool, false}
-use mathlib.Core.Option.{Option, none, some}
+use mathlib.Core.Option.{none}
 use Prim.Native.Nat.{ℕ, suc, _+_, _-_, _≤_, _<_}
 use native.Mathlib.Omega.{arith}
-use lib.ListN.{length}
 use Rattle.jobfile.specs.Events.{accessOf, moveOf}
 use Rattle.jobfile.specs.Trace.{eventAt, moves}
 use Rattle.jobfile.specs.declared.event.Event.{Event}
@@ -22,10 +21,8 @@ use Rattle.strands.specs.declared.Now.{Now}
 use Rattle.strands.proofs.Events.{nothing-advances}
 use Rattle.races.specs.Trace.{other, onRecord, recordOf}
 use Rattle.races.specs.Places.{firstOf, found}
-use Rattle.races.specs.Records.{secondIn, secondOf}
-use Rattle.races.specs.Shown.{metOf, Shown, Arriving, Placeable, Placed}
-use Rattle.races.specs.Mark.{rank, actOf, rules, layout, two, traceOf}
-use Rattle.races.specs.declared.Met.{Met}
+use Rattle.races.specs.Shown.{Arriving, Accessible, Accessed}
+use Rattle.races.specs.Mark.{rank, actOf, rules, layout, two, eventTrace}
 use Rattle.races.specs.declared.Met.the-variants.{First, Nothing}
 use Rattle.races.proofs.Found.{found-none, found-off}
 use Rattle.races.proofs.Shown.{first-met, nothing-met, shown-other, shown-racing}
@@ -33,7 +30,7 @@ use Rattle.races.proofs.OneRace.{all-unraced, still-none, stops-here}
 use Rattle.races.proofs.Named.{lawful, fit}
 use Rattle.judging.specs.declared.Turn.the-variants.{Go, Raced}
 use Rattle.judging.specs.Asking.{heldAbove, Askable}
-use Rattle.judging.specs.Turns.{Run, Midway, Unraced, Turnable, Turns}
+use Rattle.judging.specs.Turns.{Run, Unraced, Turnable, Turns}
 use Rattle.judging.proofs.Asking.{run-rooted, on-record, askable, arriving}
 
 -- event i may be taken
@@ -73,37 +70,37 @@ module _ {part : List ℕ} {i : ℕ} {M : Memory} {T : OpenTasks} {P : List ℕ}
     module _ (wrote stood : Bool) (w : wrote ≡ heldAbove (M .labels) P r (now .strands - 1))
         (s : stood ≡ heldAbove (M .labels) P (8192 + r) (now .strands - 1)) where
       arrives : (records k : ℕ) (M₀ : Memory) (P₀ : List ℕ) → Run part records k → i < k → Unraced part records M₀ P₀ M T P now i
-          → Arriving rules (traceOf (eventAt part)) layout i records P₀ P r (rank kind) i (now .strands - 1) (two wrote stood)
+          → Arriving rules (eventTrace (eventAt part)) layout i records P₀ P r (rank kind) i (now .strands - 1) (two wrote stood)
       arrives records k M₀ P₀ R h U =
-          arriving R h (U .midway) kind r to-record (all-unraced rules (traceOf (eventAt part)) i (U .none-raced) r) wrote stood w s
+          arriving R h (U .midway) kind r to-record (all-unraced rules (eventTrace (eventAt part)) i (U .none-raced) r) wrote stood w s
 
-      pub placeable : Placeable rules layout (two wrote stood) P r (rank kind) i (now .strands - 1)
-      placeable = record {
-        T = traceOf (eventAt part);
+      pub accessible : Accessible rules layout (two wrote stood) P r (rank kind) i (now .strands - 1)
+      accessible = record {
+        T = eventTrace (eventAt part);
         n = i;
         records = A .records;
         P₀ = A .P₀;
         arriving = arrives (A .records) (A .k) (A .M₀) (A .P₀) (A .run) (A .next) (A .unraced);
       }
 
-      pub turns-race : (P′ : List ℕ) (first : ℕ) → Placed rules layout (two wrote stood) P r (rank kind) i (now .strands - 1) P′ (First first)
+      pub turns-race : (P′ : List ℕ) (first : ℕ) → Accessed rules layout (two wrote stood) P r (rank kind) i (now .strands - 1) P′ (First first)
           → Turns part i M T P now M T P′ (Raced first r)
       turns-race P′ first placed records k M₀ P₀ R h U =
           let J = arrives records k M₀ P₀ R h U in
-          let p = placed (traceOf (eventAt part)) i records P₀ J in
-          let f = first-met (firstOf rules (traceOf (eventAt part)) r i) first (p .0) in (
+          let p = placed (eventTrace (eventAt part)) i records P₀ J in
+          let f = first-met (firstOf rules (eventTrace (eventAt part)) r i) first (p .0) in (
             record {
               reached = U .midway .reached;
               shown = shown-racing (J .facing) first f (p .1);
               places-room = omega (arith, p .1 .size, U .midway .shown .size, U .midway .places-room);
             },
-            stops-here rules (traceOf (eventAt part)) (lawful (eventAt part)) (fit (eventAt part)) i (U .none-raced) r (rank kind) first (ap actOf to-record) f,
+            stops-here rules (eventTrace (eventAt part)) (lawful (eventAt part)) (fit (eventAt part)) i (U .none-raced) r (rank kind) first (ap actOf to-record) f,
           )
 
-      pub turns-placed : (P′ : List ℕ) → Placed rules layout (two wrote stood) P r (rank kind) i (now .strands - 1) P′ Nothing
+      pub turns-accessed : (P′ : List ℕ) → Accessed rules layout (two wrote stood) P r (rank kind) i (now .strands - 1) P′ Nothing
           → Turns part i M T P now M T P′ (Go now)
-      turns-placed P′ placed records k M₀ P₀ R h U =
-          let T′ = traceOf (eventAt part) in
+      turns-accessed P′ placed records k M₀ P₀ R h U =
+          let T′ = eventTrace (eventAt part) in
           let p = placed T′ i records P₀ (arrives records k M₀ P₀ R h U) in
           let own : recordOf (T′ .act i) ≡ r = ap (λ a. recordOf (actOf a)) to-record in
           let f : found rules T′ (recordOf (T′ .act i)) i ≡ false = rw own (found-none rules T′ r i (nothing-met (firstOf rules T′ r i) (p .0))) in
@@ -132,7 +129,7 @@ module _ {part : List ℕ} {i : ℕ} {M : Memory} {T : OpenTasks} {P : List ℕ}
 
     pub turns-moved : (M′ : Memory) (T′ : OpenTasks) (next : Now) → Advances M T now m M′ T′ next → Turns part i M T P now M′ T′ P (Go next)
     turns-moved M′ T′ next advanced records k M₀ P₀ R h U =
-        let tr = traceOf (eventAt part) in
+        let tr = eventTrace (eventAt part) in
         let none : accessOf (eventAt part i) ≡ None = rw (← same) to in
         let still : tr .act i ≡ other = ap actOf none in
         record {

@@ -5,25 +5,23 @@ use mathlib.Core.Logic.{_⊎_, inl, inr, _≢_}
 use mathlib.Core.List.{List}
 use mathlib.Core.Bool.{Bool, true, false, cond, false≢true, _&&_}
 use mathlib.Core.Option.{Option, none, some}
-use Prim.Native.Nat.{ℕ, suc, _≤_, _<_}
+use Prim.Native.Nat.{ℕ, suc, _<_}
 use native.Mathlib.Omega.{arith}
 use lib.Dec.{eqb}
-use lib.ListN.{length, getD}
+use lib.ListN.{getD}
 use borrow.Author.Tests.{eqb-true, eqb-false, eq-eqb, ne-eqb}
-use Rattle.races.specs.Search.{least}
-use Rattle.races.specs.Trace.{Act, other, access, Trace, Lawful, onRecord, isOf, classOf}
-use Rattle.races.specs.Rules.{Rules, Fit}
-use Rattle.races.specs.Places.{holds, stood, parTo, inClass, held, finds, foundClass, firstIn, firstOf, given, found}
-use Rattle.races.specs.Records.{secondOf, stopOf}
-use Rattle.races.specs.Entries.{put, eventOr, strandOr, Layout, Here, Laid, Holding}
-use Rattle.races.specs.Shown.{metOf, Names, NamesNone, shownAt, Shown, Facing, Arriving, Placed}
-use Rattle.races.specs.declared.Met.{Met}
+use Rattle.races.specs.Trace.{access, Trace, onRecord, isOf, classOf}
+use Rattle.races.specs.Rules.{Rules}
+use Rattle.races.specs.Places.{holds, stood, parTo, inClass, held, finds, foundClass, firstIn, firstOf, found}
+use Rattle.races.specs.Records.{stopOf}
+use Rattle.races.specs.Entries.{put, Layout, HasPlace}
+use Rattle.races.specs.Shown.{Names, NamesNone, shownAt, Facing, Accessed}
 use Rattle.races.specs.declared.Met.the-variants.{First, Nothing}
-use Rattle.races.proofs.Search.{Least, least-is, least-only}
+use Rattle.races.proofs.Search.{Least, least-is}
 use Rattle.races.proofs.Standing.{holds-some}
-use Rattle.races.proofs.Found.{together, of-is, found-by, Finding, finding-first}
+use Rattle.races.proofs.Found.{together, of-is, found-by, finding-first}
 use Rattle.races.proofs.Entries.{holding-same, holding-put}
-use Rattle.races.proofs.Places.{stood-new, stood-last, stood-old, held-next, held-off, stop-none, frozen-stays, racing-stays, clean-follows, elsewhere-stays}
+use Rattle.races.proofs.Places.{stood-new, stood-last, stood-old, held-next, held-off, stop-none, racing-stays, clean-follows, elsewhere-stays}
 
 guarded : (x a b : Bool) → (x ≡ true → a ≡ b) → (x && a) ≡ (x && b)
 guarded true a b f = f refl
@@ -53,7 +51,7 @@ module _ {R : Rules} {T : Trace} {n r b : ℕ} {told : ℕ → Bool} (F : Facing
   names-finds : (c : ℕ) → Names R b told c → finds R T r n c ≡ true
   names-finds c N = finds-told c (N .below) ∙ together (N .clash) (N .parallel)
 
-  pub names-first : (c : ℕ) → Names R b told c → (i : ℕ) × (held R T r c n ≡ some i) × (firstOf R T r n ≡ some i)
+  names-first : (c : ℕ) → Names R b told c → (i : ℕ) × (held R T r c n ≡ some i) × (firstOf R T r n ≡ some i)
   names-first c N =
       let h = holds-some (parTo T n) (held R T r c n) (sym (F .tells c (N .below) (inl (N .clash))) ∙ N .parallel) in
       let e : classOf (T .act n) ≡ b = ap classOf (F .is-access) in (
@@ -69,18 +67,18 @@ module _ {R : Rules} {T : Trace} {n r b : ℕ} {told : ℕ → Bool} (F : Facing
         }),
       )
 
-  pub names-found : (c : ℕ) → Names R b told c → found R T r n ≡ true
+  names-found : (c : ℕ) → Names R b told c → found R T r n ≡ true
   names-found c N = found-by R T r n b c (F .is-access) (N .below) (names-finds c N)
 
   none-first : (o : Option ℕ) → Least (finds R T r n) (R .classes) o → NamesNone R b told → firstIn R T r n o ≡ none
   none-first none l f = refl
   none-first (some c) l f = absurd (false≢true (sym (f c (l .0)) ∙ sym (finds-told c (l .0)) ∙ l .1))
 
-  pub names-none : NamesNone R b told → firstOf R T r n ≡ none
+  names-none : NamesNone R b told → firstOf R T r n ≡ none
   unfolding firstOf
   names-none f = none-first (foundClass R T r n) (least-is (finds R T r n) (R .classes)) f
 
-  pub none-found : NamesNone R b told → found R T r n ≡ false
+  none-found : NamesNone R b told → found R T r n ≡ false
   unfolding found
   none-found f = rw (names-none f) (all-false (onRecord r (T .act n)))
     where
@@ -89,7 +87,7 @@ module _ {R : Rules} {T : Trace} {n r b : ℕ} {told : ℕ → Bool} (F : Facing
       all-false false = refl
 
   -- what every place is to hold after the event
-  pub named-stays : (c : ℕ) → Names R b told c → (q d : ℕ) → shownAt R T (suc n) q d ≡ shownAt R T n q d
+  named-stays : (c : ℕ) → Names R b told c → (q d : ℕ) → shownAt R T (suc n) q d ≡ shownAt R T n q d
   named-stays c N q d = go (same-or-not q r)
     where
       go : (q ≡ r) ⊎ (q ≢ r) → shownAt R T (suc n) q d ≡ shownAt R T n q d
@@ -97,7 +95,7 @@ module _ {R : Rules} {T : Trace} {n r b : ℕ} {told : ℕ → Bool} (F : Facing
       go (inr e) = elsewhere-stays R T (F .law) (F .fit) q n (ap (onRecord q) (F .is-access) ∙ off-record q r b e) d
 
   -- nothing named: the places of other classes and records are as they were
-  pub others-stay : NamesNone R b told → (q d : ℕ) → ¬ ((q ≡ r) × (d ≡ b)) → shownAt R T (suc n) q d ≡ shownAt R T n q d
+  others-stay : NamesNone R b told → (q d : ℕ) → ¬ ((q ≡ r) × (d ≡ b)) → shownAt R T (suc n) q d ≡ shownAt R T n q d
   others-stay f q d z = go (same-or-not q r)
     where
       go : (q ≡ r) ⊎ (q ≢ r) → shownAt R T (suc n) q d ≡ shownAt R T n q d
@@ -120,44 +118,44 @@ module _ {R : Rules} {T : Trace} {n r b : ℕ} {told : ℕ → Bool} (F : Facing
   own-told : told b ≡ holds (parTo T n) (held R T r b n)
   own-told = F .tells b (F .fit .classed n r b (F .is-access)) (inr refl)
 
-  pub own-taken : NamesNone R b told → (R .latest b ≡ true) ⊎ (told b ≡ false) → shownAt R T (suc n) r b ≡ some n
+  own-taken : NamesNone R b told → (R .latest b ≡ true) ⊎ (told b ≡ false) → shownAt R T (suc n) r b ≡ some n
   own-taken f (inl t) = own-next f ∙ stood-last (R .latest b) (parTo T n) n (held R T r b n) t
   own-taken f (inr t) = own-next f ∙ stood-new (R .latest b) (parTo T n) n (held R T r b n) (sym own-told ∙ t)
 
-  pub own-kept : NamesNone R b told → R .latest b ≡ false → told b ≡ true → shownAt R T (suc n) r b ≡ shownAt R T n r b
+  own-kept : NamesNone R b told → R .latest b ≡ false → told b ≡ true → shownAt R T (suc n) r b ≡ shownAt R T n r b
   own-kept f t u =
       let w = clean-follows R T (F .law) (F .fit) r n (F .unraced) (none-found f) b in
       own-next f ∙ stood-old (R .latest b) (parTo T n) n (held R T r b n) t (sym own-told ∙ u) ∙ sym (w .1)
 
--- The buffer. `Here` says that the class in question has its place in this one.
+-- The buffer. `HasPlace` says that the class in question has its place in this one.
 module _ {R : Rules} {Y : Layout} {told : ℕ → Bool} {P : List ℕ} {r b at strand : ℕ} where
-  pub placed-first : (c : ℕ) → c < Y .classes
+  pub accessed-first : (c : ℕ) → c < Y .classes
       → Names R b told c
-      → Placed R Y told P r b at strand P (First (getD P (Y .spot r c) 0))
-  placed-first c high N T n records P₀ J =
+      → Accessed R Y told P r b at strand P (First (getD P (Y .spot r c) 0))
+  accessed-first c high N T n records P₀ J =
       let F = J .facing in
       let w = names-first F c N in
       let s : stopOf R T r n ≡ n = stop-none R T r n (F .unraced) in
-      let h : Here Y records r c = record { on-record = J .on-record; below = high } in
+      let h : HasPlace Y records r c = record { on-record = J .on-record; below = high } in
       let e : getD P (Y .spot r c) 0 ≡ w .0 = J .shown .event r c h ∙ rw (s, w .1) in
       (rw (e, w .2), holding-same (J .shown) (shownAt R T (suc n)) (λ q d k. named-stays F c N q d))
 
-  pub placed-put : b < Y .classes → NamesNone R b told
+  pub accessed-put : b < Y .classes → NamesNone R b told
       → (R .latest b ≡ true) ⊎ (told b ≡ false)
-      → Placed R Y told P r b at strand (put P (Y .spot r b) (Y .gap) at strand) Nothing
-  placed-put high none-named takes T n records P₀ J =
+      → Accessed R Y told P r b at strand (put P (Y .spot r b) (Y .gap) at strand) Nothing
+  accessed-put high none-named takes T n records P₀ J =
       let F = J .facing in
-      let h : Here Y records r b = record { on-record = J .on-record; below = high } in (
+      let h : HasPlace Y records r b = record { on-record = J .on-record; below = high } in (
         rw (names-none F none-named),
         rw (J .number, J .strand-is)
             (holding-put (J .shown) (J .laid) (shownAt R T (suc n)) r b (some n) h (own-taken F none-named takes) (λ q d k z. others-stay F none-named q d z)),
       )
 
   -- the access does not come to stand, or has its place in another buffer
-  pub placed-kept : NamesNone R b told
+  pub accessed-kept : NamesNone R b told
       → (R .latest b ≡ false) × (told b ≡ true)
-      → Placed R Y told P r b at strand P Nothing
-  placed-kept none-named keeps T n records P₀ J =
+      → Accessed R Y told P r b at strand P Nothing
+  accessed-kept none-named keeps T n records P₀ J =
       let F = J .facing in
       (rw (names-none F none-named), holding-same (J .shown) (shownAt R T (suc n)) (λ q d k. stays F q d (both-or q d)))
     where

@@ -1,4 +1,5 @@
--- The starred small jobs, one list, proved together by computation: the verdict and the strands begun. Assumes nothing.
+-- Small jobs by computation: the starred ones, one list, with the strands begun; ones that a slip in a rule would answer otherwise; each
+-- record's own pair. Assumes nothing.
 use mathlib.Core.Path.{_≡_, refl}
 use mathlib.Core.List.{List, [], _∷_, map}
 use Prim.Native.Nat.{ℕ}
@@ -10,37 +11,37 @@ use Rattle.jobfile.specs.declared.event.Event.{Event}
 use Rattle.jobfile.specs.declared.event.Event.the-variants.{Spawn as S, End as E, Sync as J, Read as R, Write as W}
 use Rattle.relation.specs.Walk.{opened, moveAt, walkFor, walk}
 use Rattle.races.specs.Search.{any, least}
-use Rattle.races.specs.Trace.{Act, recordOf}
+use Rattle.races.specs.Trace.{recordOf}
 use Rattle.races.specs.Places.{heldOf, firstOf, found}
-use Rattle.races.specs.Records.{Pair, pair, Verdict, clean, race, races, raced, pairOf, racedAny, verdictAt, verdictIn, stopIn}
-use Rattle.races.specs.Mark.{actOf, rules, traceOf}
+use Rattle.races.specs.Records.{pair, Verdict, clean, race, races, raced, pairOf, racedAny, verdictAt, verdictIn, stopIn}
+use Rattle.races.specs.Mark.{actOf, rules, eventTrace}
 use Rattle.races.specs.Named.{verdict, stopAt}
 
-pub record Answer : Type 0 where
-  pub answer : Verdict
+pub record Outcome : Type 0 where
+  pub verdict-is : Verdict
   pub strands : ℕ
 
-abbrev pub judged : List Event → Answer
-judged events = record {
-  answer = verdict (listed events) (length events);
+abbrev pub outcome : List Event → Outcome
+outcome events = record {
+  verdict-is = verdict (listed events) (length events);
   strands = begunAt (moves (listed events)) (stopAt (listed events) (length events));
 }
 
-abbrev pub answers : List Answer
-answers =
-    record { answer = clean; strands = 1 }
-    ∷ record { answer = clean; strands = 1 }
-    ∷ record { answer = race 1 3 0; strands = 3 }
-    ∷ record { answer = clean; strands = 4 }
-    ∷ record { answer = race 1 4 0; strands = 3 }
-    ∷ record { answer = race 2 4 0; strands = 3 }
-    ∷ record { answer = race 1 4 0; strands = 4 }
-    ∷ record { answer = clean; strands = 6 }
-    ∷ record { answer = race 2 6 0; strands = 6 }
-    ∷ record { answer = race 1 5 0; strands = 4 }
+abbrev pub outcomes : List Outcome
+outcomes =
+    record { verdict-is = clean; strands = 1 }
+    ∷ record { verdict-is = clean; strands = 1 }
+    ∷ record { verdict-is = race 1 3 0; strands = 3 }
+    ∷ record { verdict-is = clean; strands = 4 }
+    ∷ record { verdict-is = race 1 4 0; strands = 3 }
+    ∷ record { verdict-is = race 2 4 0; strands = 3 }
+    ∷ record { verdict-is = race 1 4 0; strands = 4 }
+    ∷ record { verdict-is = clean; strands = 6 }
+    ∷ record { verdict-is = race 2 6 0; strands = 6 }
+    ∷ record { verdict-is = race 1 5 0; strands = 4 }
     ∷ []
 
-pub starred-cases : map judged cases ≡ answers
+pub starred-cases : map outcome cases ≡ outcomes
 unfolding tasksAt begunAt opened moveAt walkFor walk any least races raced heldOf firstOf racedAny verdictIn stopIn
 starred-cases = refl
 
@@ -50,8 +51,8 @@ byPairs events = verdict (listed events) (length events)
 
 abbrev byPlaces : List Event → Verdict
 byPlaces events =
-    verdictAt rules (traceOf (listed events))
-    (least (λ j. found rules (traceOf (listed events)) (recordOf (actOf (accessOf (listed events j)))) j) (length events))
+    verdictAt rules (eventTrace (listed events))
+    (least (λ j. found rules (eventTrace (listed events)) (recordOf (actOf (accessOf (listed events j)))) j) (length events))
 
 abbrev near : List (List Event)
 near =
@@ -80,7 +81,7 @@ near-places = refl
 abbrev two-records : List Event
 two-records = S ∷ W 1 ∷ W 0 ∷ E ∷ W 1 ∷ W 0 ∷ []
 
-pub own-pairs : (pairOf rules (traceOf (listed two-records)) 0 6 ≡ pair 2 5) × (pairOf rules (traceOf (listed two-records)) 1 6 ≡ pair 1 4)
+pub own-pairs : (pairOf rules (eventTrace (listed two-records)) 0 6 ≡ pair 2 5) × (pairOf rules (eventTrace (listed two-records)) 1 6 ≡ pair 1 4)
     × (byPairs two-records ≡ race 1 4 1)
 unfolding tasksAt opened moveAt walkFor walk any least races raced heldOf firstOf pairOf racedAny verdictIn
 own-pairs = (refl, refl, refl)

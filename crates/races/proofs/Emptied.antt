@@ -1,17 +1,16 @@
 -- Runs of entries set to none: four of them empty the places. Assumes nothing.
-use mathlib.Core.Path.{_≡_, refl, sym, _∙_}
+use mathlib.Core.Path.{_≡_, refl, _∙_}
 use mathlib.Core.Logic.{_⊎_, inl, inr, _≢_}
 use mathlib.Core.List.{List}
-use mathlib.Core.Option.{none}
 use Prim.Native.Nat.{ℕ, zero, suc, _+_, _*_, _-_, _≤_, _<_}
 use native.Mathlib.Omega.{arith}
 use native.Mathlib.Decide.{decLe}
 use lib.ListN.{length, getD, set, length-set}
 use lib.Seq.{getD-set-same, getD-set-other}
-use Rattle.races.specs.Entries.{filled, Here, Holding, Empty}
+use Rattle.races.specs.Entries.{filled, HasPlace, Empty}
 use Rattle.races.specs.Mark.{layout}
 
-pub filled-length : (P : List ℕ) (from k : ℕ) → length (filled P from k) ≡ length P
+filled-length : (P : List ℕ) (from k : ℕ) → length (filled P from k) ≡ length P
 unfolding filled
 filled-length P from zero = refl
 filled-length P from (suc k) = (simp length-set) ∙ filled-length P from k
@@ -24,7 +23,7 @@ pub filled-more : (P : List ℕ) (from k : ℕ) → set (filled P from k) (from 
 unfolding filled
 filled-more P from k = let e : k + 1 ≡ suc k = omega arith in rw e
 
-pub filled-in : (P : List ℕ) (from k i : ℕ) → from ≤ i → i < from + k → from + k ≤ length P → getD (filled P from k) i 0 ≡ 4294967295
+filled-in : (P : List ℕ) (from k i : ℕ) → from ≤ i → i < from + k → from + k ≤ length P → getD (filled P from k) i 0 ≡ 4294967295
 unfolding filled
 filled-in P from zero i l h room = absurd (omega arith)
 filled-in P from (suc k) i l h room = go (decLe (from + k) i) (λ x. filled-in P from k i l x (omega arith))
@@ -38,7 +37,7 @@ filled-in P from (suc k) i l h room = go (decLe (from + k) i) (λ x. filled-in P
         let d : i ≢ from + k = omega arith in
         (simp getD-set-other) ∙ ih (omega arith)
 
-pub filled-out : (P : List ℕ) (from k i : ℕ) → (i < from) ⊎ (from + k ≤ i) → getD (filled P from k) i 0 ≡ getD P i 0
+filled-out : (P : List ℕ) (from k i : ℕ) → (i < from) ⊎ (from + k ≤ i) → getD (filled P from k) i 0 ≡ getD P i 0
 unfolding filled
 filled-out P from zero i o = refl
 filled-out P from (suc k) i o =
@@ -103,7 +102,7 @@ emptied records P few room strand = record {
     more : 8192 + 4096 + records ≤ length (filled (filled P 0 records) 4096 records)
     more = omega (arith, both-length P 0 4096 records few (omega arith))
 
-    here : (r c : ℕ) → r < records → c < 2 → Here layout records r c
+    here : (r c : ℕ) → r < records → c < 2 → HasPlace layout records r c
     here r c l h = record { on-record = l; below = h }
 
     at : (r c : ℕ) → r < records → c < 2

@@ -13,7 +13,7 @@ use lib.Seq.{getD-set-same, getD-set-other, set-getD, lt-length-set, ext-getD}
 use borrow.Author.Tests.{eqb-true, eqb-false, eq-eqb}
 use Rattle.jobfile.proofs.Tests.{either}
 use Rattle.races.specs.Search.{any}
-use Rattle.races.specs.Entries.{put, eventOr, strandOr, Layout, Here, Laid, Holding}
+use Rattle.races.specs.Entries.{put, eventOr, strandOr, Layout, HasPlace, Laid, Holding}
 use Rattle.races.proofs.Search.{any-finds, any-has}
 
 -- what a place holds, put there again, changes nothing
@@ -22,7 +22,7 @@ unfolding put
 put-held P p gap = rw (set-getD P p 0, set-getD P (p + gap) 0)
 
 module _ (P : List ℕ) (p gap event strand : ℕ) where
-  pub put-length : length (put P p gap event strand) ≡ length P
+  put-length : length (put P p gap event strand) ≡ length P
   unfolding put
   put-length = simp length-set
 
@@ -50,7 +50,7 @@ one-or-other q d r c = go (eqb q r) (eqb d c) refl refl
 
 module _ {Y : Layout} {strand : ℕ → ℕ} {records : ℕ} {P₀ P : List ℕ} {what : ℕ → ℕ → Option ℕ} (H : Holding Y strand records P₀ what P) where
   -- what the places are to hold is what they hold
-  pub holding-same : (what′ : ℕ → ℕ → Option ℕ) → ((r c : ℕ) → Here Y records r c → what′ r c ≡ what r c) → Holding Y strand records P₀ what′ P
+  pub holding-same : (what′ : ℕ → ℕ → Option ℕ) → ((r c : ℕ) → HasPlace Y records r c → what′ r c ≡ what r c) → Holding Y strand records P₀ what′ P
   holding-same what′ same = record {
     event = λ r c h. rw (same r c h) (H .event r c h);
     its-strand = λ r c h. rw (same r c h) (H .its-strand r c h);
@@ -59,8 +59,8 @@ module _ {Y : Layout} {strand : ℕ → ℕ} {records : ℕ} {P₀ P : List ℕ}
   }
 
   -- one place is put, and the others are to hold what they held
-  pub holding-put : Laid Y records (length P) → (what′ : ℕ → ℕ → Option ℕ) (r c : ℕ) (o : Option ℕ) → Here Y records r c → what′ r c ≡ o
-      → ((q d : ℕ) → Here Y records q d → ¬ ((q ≡ r) × (d ≡ c)) → what′ q d ≡ what q d)
+  pub holding-put : Laid Y records (length P) → (what′ : ℕ → ℕ → Option ℕ) (r c : ℕ) (o : Option ℕ) → HasPlace Y records r c → what′ r c ≡ o
+      → ((q d : ℕ) → HasPlace Y records q d → ¬ ((q ≡ r) × (d ≡ c)) → what′ q d ≡ what q d)
       → Holding Y strand records P₀ what′ (put P (Y .spot r c) (Y .gap) (eventOr o) (strandOr strand o))
   holding-put laid what′ r c o here e old = record {
     event = λ q d h. event-at q d h (one-or-other q d r c);
@@ -75,7 +75,7 @@ module _ {Y : Layout} {strand : ℕ → ℕ} {records : ℕ} {P₀ P : List ℕ}
       g : ℕ
       g = Y .gap
 
-      event-at : (q d : ℕ) → Here Y records q d → ((q ≡ r) × (d ≡ c)) ⊎ (¬ ((q ≡ r) × (d ≡ c)))
+      event-at : (q d : ℕ) → HasPlace Y records q d → ((q ≡ r) × (d ≡ c)) ⊎ (¬ ((q ≡ r) × (d ≡ c)))
           → getD (put P (Y .spot r c) (Y .gap) (eventOr o) (strandOr strand o)) (Y .spot q d) 0 ≡ eventOr (what′ q d)
       event-at q d h (inl z) =
           rw (z .0, z .1, e)
@@ -85,7 +85,7 @@ module _ {Y : Layout} {strand : ℕ → ℕ} {records : ℕ} {P₀ P : List ℕ}
           (put-other P (Y .spot r c) (Y .gap) (eventOr o) (strandOr strand o) (Y .spot q d) (λ x. z (laid .apart q d r c h here x))
           (laid .strands-apart q d r c h here) ∙ H .event q d h)
 
-      strand-at : (q d : ℕ) → Here Y records q d → ((q ≡ r) × (d ≡ c)) ⊎ (¬ ((q ≡ r) × (d ≡ c)))
+      strand-at : (q d : ℕ) → HasPlace Y records q d → ((q ≡ r) × (d ≡ c)) ⊎ (¬ ((q ≡ r) × (d ≡ c)))
           → getD (put P (Y .spot r c) (Y .gap) (eventOr o) (strandOr strand o)) (Y .spot q d + Y .gap) 0 ≡ strandOr strand (what′ q d)
       strand-at q d h (inl z) =
           rw (z .0, z .1, e) (put-strand P (Y .spot r c) (Y .gap) (eventOr o) (strandOr strand o) (laid .room r c here))
@@ -105,13 +105,13 @@ module _ (Y : Layout) (records i : ℕ) where
   right-or : (a b : Bool) → b ≡ true → (a || b) ≡ true
   right-or a b t = rw t (or-true a)
 
-  entry-or-none : ((r : ℕ) × (c : ℕ) × Here Y records r c × ((i ≡ Y .spot r c) ⊎ (i ≡ Y .spot r c + Y .gap)))
-      ⊎ ((r c : ℕ) → Here Y records r c → (i ≢ Y .spot r c) × (i ≢ Y .spot r c + Y .gap))
+  entry-or-none : ((r : ℕ) × (c : ℕ) × HasPlace Y records r c × ((i ≡ Y .spot r c) ⊎ (i ≡ Y .spot r c + Y .gap)))
+      ⊎ ((r c : ℕ) → HasPlace Y records r c → (i ≢ Y .spot r c) × (i ≢ Y .spot r c + Y .gap))
   entry-or-none = go (any (λ r. any (isEntry r) (Y .classes)) records) refl
     where
       go : (t : Bool) → any (λ r. any (isEntry r) (Y .classes)) records ≡ t
-          → ((r : ℕ) × (c : ℕ) × Here Y records r c × ((i ≡ Y .spot r c) ⊎ (i ≡ Y .spot r c + Y .gap)))
-          ⊎ ((r c : ℕ) → Here Y records r c → (i ≢ Y .spot r c) × (i ≢ Y .spot r c + Y .gap))
+          → ((r : ℕ) × (c : ℕ) × HasPlace Y records r c × ((i ≡ Y .spot r c) ⊎ (i ≡ Y .spot r c + Y .gap)))
+          ⊎ ((r c : ℕ) → HasPlace Y records r c → (i ≢ Y .spot r c) × (i ≢ Y .spot r c + Y .gap))
       go true t =
           let a = any-finds (λ r. any (isEntry r) (Y .classes)) records t in
           let b = any-finds (isEntry (a .0)) (Y .classes) (a .2) in
@@ -132,7 +132,7 @@ module _ (Y : Layout) (records i : ℕ) where
         λ e. no r c h (right-or (eqb i (Y .spot r c)) (eqb i (Y .spot r c + Y .gap)) (eq-eqb i (Y .spot r c + Y .gap) e)),
       ))
         where
-          no : (r c : ℕ) → Here Y records r c → ¬ ((eqb i (Y .spot r c) || eqb i (Y .spot r c + Y .gap)) ≡ true)
+          no : (r c : ℕ) → HasPlace Y records r c → ¬ ((eqb i (Y .spot r c) || eqb i (Y .spot r c + Y .gap)) ≡ true)
           no r c h u =
               false≢true (sym t ∙ any-has (λ r. any (isEntry r) (Y .classes)) records r (h .on-record)
               (any-has (isEntry r) (Y .classes) c (h .below) u))
@@ -143,8 +143,8 @@ pub holding-unique : (Y : Layout) (strand : ℕ → ℕ) (records : ℕ) (P₀ P
 holding-unique Y strand records P₀ P Q what G H = ext-getD 0 P Q (G .size ∙ sym (H .size)) (λ i l. same i (entry-or-none Y records i))
   where
     same : (i : ℕ)
-        → ((r : ℕ) × (c : ℕ) × Here Y records r c × ((i ≡ Y .spot r c) ⊎ (i ≡ Y .spot r c + Y .gap)))
-        ⊎ ((r c : ℕ) → Here Y records r c → (i ≢ Y .spot r c) × (i ≢ Y .spot r c + Y .gap))
+        → ((r : ℕ) × (c : ℕ) × HasPlace Y records r c × ((i ≡ Y .spot r c) ⊎ (i ≡ Y .spot r c + Y .gap)))
+        ⊎ ((r c : ℕ) → HasPlace Y records r c → (i ≢ Y .spot r c) × (i ≢ Y .spot r c + Y .gap))
         → getD P i 0 ≡ getD Q i 0
     same i (inr out) = G .others i out ∙ sym (H .others i out)
     same i (inl w) = at (w .3)

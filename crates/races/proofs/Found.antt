@@ -13,7 +13,7 @@ use Rattle.races.specs.Rules.{Rules, Fit}
 use Rattle.races.specs.Places.{holds, parTo, inClass, held, finds, foundClass, firstIn, firstOf, given, found}
 use Rattle.races.specs.Records.{races, raced, secondOf}
 use Rattle.races.proofs.Search.{below, not-true, true-together, any-finds, any-has, Least, least-is, least-only}
-use Rattle.races.proofs.Standing.{holds-some, Chain, place-speaks, held-below}
+use Rattle.races.proofs.Standing.{holds-some, AllBefore, place-speaks, held-below}
 
 pub together : {a b : Bool} → a ≡ true → b ≡ true → (a && b) ≡ true
 together e f = rw (e, f)
@@ -29,7 +29,7 @@ is-of r c (access q d) t =
 pub of-is : (r c : ℕ) → isOf r c (access r c) ≡ true
 of-is r c = together (eq-eqb r r refl) (eq-eqb c c refl)
 
-pub on-is : (r : ℕ) (a : Act) → onRecord r a ≡ true → (c : ℕ) × (a ≡ access r c)
+on-is : (r : ℕ) (a : Act) → onRecord r a ≡ true → (c : ℕ) × (a ≡ access r c)
 on-is r other t = absurd (false≢true t)
 on-is r (access q d) t = (d, let e : q ≡ r = eqb-true q r t in rw e)
 
@@ -43,7 +43,7 @@ module _ (R : Rules) (T : Trace) where
     pub clash : R .clash a b ≡ true
     pub parallel : T .par m j ≡ true
 
-  pub races-is : (r m j : ℕ) → Racing r m j → races R T r m j ≡ true
+  races-is : (r m j : ℕ) → Racing r m j → races R T r m j ≡ true
   unfolding races
   races-is r m j P = rw (P .first, P .second, P .clash, P .parallel, eq-eqb r r refl)
 
@@ -51,7 +51,7 @@ module _ (R : Rules) (T : Trace) where
       → T .par m j ≡ true → Racing r m j
   racing r m j a b e f c t = record { a = a; b = b; first = e; second = f; clash = rw (e, f) at c; parallel = t }
 
-  pub races-parts : (r m j : ℕ) → races R T r m j ≡ true → Racing r m j
+  races-parts : (r m j : ℕ) → races R T r m j ≡ true → Racing r m j
   unfolding races
   races-parts r m j t =
       let om = onRecord r (T .act m) in
@@ -178,7 +178,7 @@ module _ (R : Rules) (T : Trace) where
         raced-by r (p .1 .0) j (w .0) (w .1)
 
     -- then the accesses of a class whose last one is kept are before one another
-    chain : (r c j : ℕ) → Quiet r j → R .latest c ≡ true → Chain T law (inClass R T r c) j
+    chain : (r c j : ℕ) → Quiet r j → R .latest c ≡ true → AllBefore T law (inClass R T r c) j
     chain r c j quiet t a b ab bj ca cb = not-true (T .par a b) (λ p. false≢true (sym (quiet b bj) ∙ raced-by r a b ab (record {
       a = c;
       b = c;

@@ -1,3 +1,4 @@
+pub mod Cases
 pub mod Search
 pub mod Standing
 pub mod Found
@@ -10,4 +11,3 @@ pub mod Shown
 pub mod Emptied
 pub mod Mark
 pub mod Named
-pub mod Cases

@@ -1,10 +1,10 @@
 -- 01's words and the theory of races: a trace of events is lawful, its race and its named pair are those of the earliest record, the verdict
 -- names that pair and no other fits, and what the places hold and show by the definition of parallel. Assumes nothing.
 use mathlib.Core.Path.{_≡_, refl, sym, ap, _∙_}
-use mathlib.Core.Logic.{_⊎_, inl, inr, _↔_, _≢_}
+use mathlib.Core.Logic.{inl, inr, _↔_, _≢_}
 use mathlib.Core.List.{List}
 use mathlib.Core.Bool.{Bool, true, false, false≢true, _||_}
-use mathlib.Core.Option.{Option, none, some}
+use mathlib.Core.Option.{none, some}
 use Prim.Native.Nat.{ℕ, zero, suc, _+_, _*_, _≤_, _<_}
 use native.Mathlib.Omega.{arith}
 use native.Mathlib.Decide.{decLe}
@@ -21,13 +21,13 @@ use Rattle.relation.specs.Walk.{Walker, par}
 use Rattle.relation.proofs.Agree.{walk-sound, walk-complete}
 use Rattle.relation.proofs.Laws.{rooted-less}
 use Rattle.relation.proofs.Walk.{walk-start, par-trans}
-use Rattle.races.specs.Trace.{Act, other, access, Trace, Lawful, isOf, classOf, recordOf}
+use Rattle.races.specs.Trace.{Act, other, access, Lawful, classOf, recordOf}
 use Rattle.races.specs.Rules.{Fit}
 use Rattle.races.specs.Places.{parTo, inClass, held, stood}
 use Rattle.races.specs.Records.{clean, race, secondIn, RaceOn, FirstOn, PairOn, OneRace, Tied}
-use Rattle.races.specs.Entries.{eventOr, strandOr, Here}
+use Rattle.races.specs.Entries.{eventOr, strandOr, HasPlace}
 use Rattle.races.specs.Shown.{Shown}
-use Rattle.races.specs.Mark.{rank, actOf, isWrite, rules, layout, traceOf}
+use Rattle.races.specs.Mark.{rank, actOf, isWrite, rules, layout, eventTrace}
 use Rattle.races.specs.Race.{conflict, Race}
 use Rattle.races.specs.Named.{lastWrite, standing, First, Named, verdict, stopAt}
 use Rattle.races.proofs.Search.{not-true}
@@ -65,24 +65,24 @@ clash-is Read Read = refl
 
 module _ (ev : ℕ → Event) where
   -- what the theory assumes
-  pub lawful : Lawful (traceOf ev)
+  pub lawful : Lawful (eventTrace ev)
   lawful = record { self = λ n. ap (λ (w : Walker). w .par) (walk-start (moves ev) n); passes = par-trans (moves ev) }
 
-  pub fit : Fit rules (traceOf ev)
+  pub fit : Fit rules (eventTrace ev)
   fit = record {
     own = last-clashes;
     classed = λ n r c e. let w = access-of (accessOf (ev n)) r c e in rw (w .2) at (rank-below (w .0));
   }
 
-  pub tied : (k : ℕ) → Rooted (moves ev) k → Tied (traceOf ev) (Parallel (moves ev)) k
+  pub tied : (k : ℕ) → Rooted (moves ev) k → Tied (eventTrace ev) (Parallel (moves ev)) k
   tied k root i j ij jk =
       let r = rooted-less (moves ev) j k (omega arith) root in
       (walk-complete (moves ev) i j r, walk-sound (moves ev) i j (omega arith) r)
 
   -- the places hold earlier accesses of their kind
-  place-is : (kind : Kind) (r n m : ℕ) → held rules (traceOf ev) r (rank kind) n ≡ some m → (m < n) × (accessOf (ev m) ≡ To kind r)
+  place-is : (kind : Kind) (r n m : ℕ) → held rules (eventTrace ev) r (rank kind) n ≡ some m → (m < n) × (accessOf (ev m) ≡ To kind r)
   place-is kind r n m e =
-      let h = held-below (traceOf ev) lawful (inClass rules (traceOf ev) r (rank kind)) (rules .latest (rank kind)) n m e in
+      let h = held-below (eventTrace ev) lawful (inClass rules (eventTrace ev) r (rank kind)) (rules .latest (rank kind)) n m e in
       let w = access-of (accessOf (ev m)) r (rank kind) (is-of r (rank kind) (actOf (accessOf (ev m))) (h .1)) in
       (h .0, w .1 ∙ ap (λ (k : Kind). To k r) (rank-only (w .0) kind (w .2)))
 
@@ -92,25 +92,25 @@ module _ (ev : ℕ → Event) where
   pub standing-read-is : (r n s : ℕ) → standing ev r n ≡ some s → (s < n) × (accessOf (ev s) ≡ To Read r)
   standing-read-is = place-is Read
 
-  of-kind : (kind : Kind) (r n : ℕ) → accessOf (ev n) ≡ To kind r → inClass rules (traceOf ev) r (rank kind) n ≡ true
+  of-kind : (kind : Kind) (r n : ℕ) → accessOf (ev n) ≡ To kind r → inClass rules (eventTrace ev) r (rank kind) n ≡ true
   of-kind kind r n e = rw e (of-is r (rank kind))
 
   -- no write of the record comes after the last one, and where there is none the record has not been written
   pub last-write-latest : (r n w m : ℕ) → lastWrite ev r n ≡ some w → m < n → accessOf (ev m) ≡ To Write r → m ≤ w
   last-write-latest r n w m e mn x =
-      let writes = inClass rules (traceOf ev) r 0 in
-      let l : LastOf (traceOf ev) lawful writes n (some w) = rw e at (held-last (traceOf ev) lawful writes n) in
+      let writes = inClass rules (eventTrace ev) r 0 in
+      let l : LastOf (eventTrace ev) lawful writes n (some w) = rw e at (held-last (eventTrace ev) lawful writes n) in
       l .2 m mn (of-kind Write r m x)
 
   pub no-last-write : (r n m : ℕ) → lastWrite ev r n ≡ none → m < n → accessOf (ev m) ≢ To Write r
   no-last-write r n m e mn x =
-      let writes = inClass rules (traceOf ev) r 0 in
-      let l : LastOf (traceOf ev) lawful writes n none = rw e at (held-last (traceOf ev) lawful writes n) in
+      let writes = inClass rules (eventTrace ev) r 0 in
+      let l : LastOf (eventTrace ev) lawful writes n none = rw e at (held-last (eventTrace ev) lawful writes n) in
       false≢true (sym (l m mn) ∙ of-kind Write r m x)
 
   -- "The first read of a record stands; a later read takes its place exactly if the standing one is before it."
-  read-takes : (r n : ℕ) → accessOf (ev n) ≡ To Read r → standing ev r (suc n) ≡ stood false (parTo (traceOf ev) n) n (standing ev r n)
-  read-takes r n e = held-next rules (traceOf ev) r 1 n ∙ rw (of-kind Read r n e)
+  read-takes : (r n : ℕ) → accessOf (ev n) ≡ To Read r → standing ev r (suc n) ≡ stood false (parTo (eventTrace ev) n) n (standing ev r n)
+  read-takes r n e = held-next rules (eventTrace ev) r 1 n ∙ rw (of-kind Read r n e)
 
   pub first-read-stands : (r n : ℕ) → accessOf (ev n) ≡ To Read r → standing ev r n ≡ none → standing ev r (suc n) ≡ some n
   first-read-stands r n e o = read-takes r n e ∙ rw o
@@ -127,7 +127,7 @@ module _ (ev : ℕ → Event) where
       read-takes r n e ∙ rw (o, z)
 
   -- a race is one of its record
-  race-on : (m j r : ℕ) (P : Race ev m j) → P .number ≡ r → RaceOn rules (traceOf ev) (Parallel (moves ev)) r m j
+  race-on : (m j r : ℕ) (P : Race ev m j) → P .number ≡ r → RaceOn rules (eventTrace ev) (Parallel (moves ev)) r m j
   race-on m j r P on = record {
     a = rank (P .first-kind);
     b = rank (P .second-kind);
@@ -138,7 +138,7 @@ module _ (ev : ℕ → Event) where
     parallel = P .parallel;
   }
 
-  on-race : (m j r : ℕ) → RaceOn rules (traceOf ev) (Parallel (moves ev)) r m j → (P : Race ev m j) × (P .number ≡ r)
+  on-race : (m j r : ℕ) → RaceOn rules (eventTrace ev) (Parallel (moves ev)) r m j → (P : Race ev m j) × (P .number ≡ r)
   on-race m j r P =
       let x = access-of (accessOf (ev m)) r (P .a) (P .first) in
       let y = access-of (accessOf (ev j)) r (P .b) (P .second) in (
@@ -161,7 +161,7 @@ module _ (ev : ℕ → Event) where
 
   module _ (k : ℕ) (root : Rooted (moves ev) k) where
     -- the rule of the first
-    first-to : (i j r : ℕ) (P : Race ev i j) → P .number ≡ r → First ev i j r → FirstOn rules (traceOf ev) (Parallel (moves ev)) r i j
+    first-to : (i j r : ℕ) (P : Race ev i j) → P .number ≡ r → First ev i j r → FirstOn rules (eventTrace ev) (Parallel (moves ev)) r i j
     first-to i j r P on (inl x) =
         record { class = 0; below = omega arith; clash = refl; holds = x .0; smallest = λ d w l c e Q. absurd (omega arith) }
     first-to i j r P on (inr x) =
@@ -177,18 +177,18 @@ module _ (ev : ℕ → Event) where
           smallest = λ d w l c e Q. let z : d ≡ 0 = omega arith in x .0 w (rw z at e) Q;
         }
 
-    first-from : (i j r : ℕ) → Parallel (moves ev) i j → FirstOn rules (traceOf ev) (Parallel (moves ev)) r i j → First ev i j r
+    first-from : (i j r : ℕ) → Parallel (moves ev) i j → FirstOn rules (eventTrace ev) (Parallel (moves ev)) r i j → First ev i j r
     first-from i j r P F = go (F .class) (F .below) (F .holds) (F .smallest)
       where
-        go : (c : ℕ) → c < 2 → held rules (traceOf ev) r c j ≡ some i
-            → ((d w : ℕ) → d < c → (isWrite d || isWrite (classOf (actOf (accessOf (ev j))))) ≡ true → held rules (traceOf ev) r d j ≡ some w
+        go : (c : ℕ) → c < 2 → held rules (eventTrace ev) r c j ≡ some i
+            → ((d w : ℕ) → d < c → (isWrite d || isWrite (classOf (actOf (accessOf (ev j))))) ≡ true → held rules (eventTrace ev) r d j ≡ some w
             → ¬ Parallel (moves ev) w j)
             → First ev i j r
         go zero l h s = inl (h, P)
         go (suc zero) l h s = inr (λ w e. s 0 w (omega arith) refl e, h)
         go (suc (suc c)) l h s = absurd (omega arith)
 
-    named-to : (i j r : ℕ) → Named ev k i j r → OneRace rules (traceOf ev) (Parallel (moves ev)) k i j r
+    named-to : (i j r : ℕ) → Named ev k i j r → OneRace rules (eventTrace ev) (Parallel (moves ev)) k i j r
     named-to i j r N = record {
       named = record {
         within = N .within;
@@ -199,11 +199,11 @@ module _ (ev : ℕ → Event) where
       least = λ q m n M. go q m n M (decLe j n);
     }
       where
-        go : (q m n : ℕ) → PairOn rules (traceOf ev) (Parallel (moves ev)) q k m n → Dec (j ≤ n) → j ≤ n
+        go : (q m n : ℕ) → PairOn rules (eventTrace ev) (Parallel (moves ev)) q k m n → Dec (j ≤ n) → j ≤ n
         go q m n M (yes h) = h
         go q m n M (no h) = absurd (N .earliest m n (omega arith) (on-race m n q (M .is-race) .0))
 
-    named-from : (i j r : ℕ) → OneRace rules (traceOf ev) (Parallel (moves ev)) k i j r → Named ev k i j r
+    named-from : (i j r : ℕ) → OneRace rules (eventTrace ev) (Parallel (moves ev)) k i j r → Named ev k i j r
     named-from i j r W =
         let x = on-race i j r (W .named .is-race) in
         record {
@@ -211,31 +211,31 @@ module _ (ev : ℕ → Event) where
           is-race = x .0;
           on-record = x .1;
           earliest = λ m n l P.
-              let w = race-early rules (traceOf ev) lawful fit (Parallel (moves ev)) k (tied k root) (P .number) m n
+              let w = race-early rules (eventTrace ev) lawful fit (Parallel (moves ev)) k (tied k root) (P .number) m n
               (omega (arith, W .named .within)) (race-on m n (P .number) P refl) in
               absurd (omega (arith, w .2, W .least (P .number) (w .0) (w .1) (w .3)));
           first = first-from i j r (W .named .is-race .parallel) (W .named .first);
         }
 
     -- the pair that 01 names is the earliest of the records' pairs
-    pub named-is : (i j r : ℕ) → Named ev k i j r ↔ OneRace rules (traceOf ev) (Parallel (moves ev)) k i j r
+    pub named-is : (i j r : ℕ) → Named ev k i j r ↔ OneRace rules (eventTrace ev) (Parallel (moves ev)) k i j r
     named-is i j r = (named-to i j r, named-from i j r)
 
   -- the verdict is a race exactly if the pair is the one to be named
   pub verdict-race : (k i j r : ℕ) → Rooted (moves ev) k → (verdict ev k ≡ race i j r) ↔ Named ev k i j r
   verdict-race k i j r root =
-      let v = verdict-earliest rules (traceOf ev) lawful fit (Parallel (moves ev)) k (tied k root) i j r in
+      let v = verdict-earliest rules (eventTrace ev) lawful fit (Parallel (moves ev)) k (tied k root) i j r in
       (λ e. named-from k root i j r (v .0 e), λ N. v .1 (named-to k root i j r N))
 
   -- no second pair fits
   pub named-only : (k i j r i′ j′ r′ : ℕ) → Rooted (moves ev) k → Named ev k i j r → Named ev k i′ j′ r′ → (i ≡ i′) × (j ≡ j′) × (r ≡ r′)
   named-only k i j r i′ j′ r′ root N M =
-      one-race-only rules (traceOf ev) lawful fit (Parallel (moves ev)) k (tied k root) i j r i′ j′ r′ (named-to k root i j r N) (named-to k root i′ j′ r′ M)
+      one-race-only rules (eventTrace ev) lawful fit (Parallel (moves ev)) k (tied k root) i j r i′ j′ r′ (named-to k root i j r N) (named-to k root i′ j′ r′ M)
 
   -- the verdict is clean exactly if there is no race
   pub verdict-clean : (k : ℕ) → Rooted (moves ev) k → (verdict ev k ≡ clean) ↔ RaceFree k
   verdict-clean k root =
-      let v = verdict-none rules (traceOf ev) lawful fit (Parallel (moves ev)) k (tied k root) in (
+      let v = verdict-none rules (eventTrace ev) lawful fit (Parallel (moves ev)) k (tied k root) in (
         λ e m n l P. v .0 e (P .number) m n l (race-on m n (P .number) P refl),
         λ free. v .1 (λ r m n l P. free m n l (on-race m n r P .0)),
       )
@@ -243,16 +243,16 @@ module _ (ev : ℕ → Event) where
   -- 01's four entries of a record, as the places show them while nothing has raced
   pub record Entries (n r : ℕ) (P : List ℕ) : Type 0 where
     pub write : getD P r 0 ≡ eventOr (lastWrite ev r n)
-    pub write-strand : getD P (4096 + r) 0 ≡ strandOr (traceOf ev .strand) (lastWrite ev r n)
+    pub write-strand : getD P (4096 + r) 0 ≡ strandOr (eventTrace ev .strand) (lastWrite ev r n)
     pub read : getD P (8192 + r) 0 ≡ eventOr (standing ev r n)
-    pub read-strand : getD P (12288 + r) 0 ≡ strandOr (traceOf ev .strand) (standing ev r n)
+    pub read-strand : getD P (12288 + r) 0 ≡ strandOr (eventTrace ev .strand) (standing ev r n)
 
-  shown-entries : (n records : ℕ) (P₀ P : List ℕ) → secondIn rules (traceOf ev) n ≡ none → Shown rules (traceOf ev) layout n records P₀ P
+  shown-entries : (n records : ℕ) (P₀ P : List ℕ) → secondIn rules (eventTrace ev) n ≡ none → Shown rules (eventTrace ev) layout n records P₀ P
       → (r : ℕ) → r < records → Entries n r P
   shown-entries n records P₀ P e S r l =
-      let stop = stop-none rules (traceOf ev) r n (all-unraced rules (traceOf ev) n e r) in
-      let wrote : Here layout records r 0 = record { on-record = l; below = omega arith } in
-      let stands : Here layout records r 1 = record { on-record = l; below = omega arith } in
+      let stop = stop-none rules (eventTrace ev) r n (all-unraced rules (eventTrace ev) n e r) in
+      let wrote : HasPlace layout records r 0 = record { on-record = l; below = omega arith } in
+      let stands : HasPlace layout records r 1 = record { on-record = l; below = omega arith } in
       let w : 8192 * 0 + r ≡ r = omega arith in
       let ws : 8192 * 0 + r + 4096 ≡ 4096 + r = omega arith in
       let s : 8192 * 1 + r ≡ 8192 + r = omega arith in
@@ -265,6 +265,6 @@ module _ (ev : ℕ → Event) where
       }
 
   -- where judging k events stops, nothing has raced: so the buffer shows the last write and the standing read of every record
-  pub stop-entries : (k records : ℕ) (P₀ P : List ℕ) → Shown rules (traceOf ev) layout (stopAt ev k) records P₀ P
+  pub stop-entries : (k records : ℕ) (P₀ P : List ℕ) → Shown rules (eventTrace ev) layout (stopAt ev k) records P₀ P
       → (r : ℕ) → r < records → Entries (stopAt ev k) r P
-  stop-entries k records P₀ P = shown-entries (stopAt ev k) records P₀ P (stop-quiet rules (traceOf ev) k)
+  stop-entries k records P₀ P = shown-entries (stopAt ev k) records P₀ P (stop-quiet rules (eventTrace ev) k)

@@ -8,13 +8,13 @@ use Prim.Native.Nat.{ℕ, suc, _≤_, _<_}
 use native.Mathlib.Omega.{arith}
 use native.Mathlib.Decide.{decLe}
 use Rattle.races.specs.Search.{least}
-use Rattle.races.specs.Trace.{Act, access, Trace, Lawful, recordOf}
+use Rattle.races.specs.Trace.{access, Trace, Lawful, recordOf}
 use Rattle.races.specs.Rules.{Rules, Fit}
 use Rattle.races.specs.Places.{firstOf, found}
 use Rattle.races.specs.Records.{clean, race, raced, secondOf, PairOn, OneRace, racedAny, secondIn, verdictAt, verdictIn, stopIn, Tied}
 use Rattle.races.proofs.Search.{below, not-true, Least, least-is, least-only}
-use Rattle.races.proofs.Found.{raced-finds, found-none, found-some, Quiet, places-enough, none-quiet}
-use Rattle.races.proofs.Records.{raced-is, RaceFree, free-quiet, second-named, named-least, named-first}
+use Rattle.races.proofs.Found.{raced-finds, found-some, places-enough, none-quiet}
+use Rattle.races.proofs.Records.{raced-is, RecordFree, free-quiet, second-named, named-least, named-first}
 
 module _ (R : Rules) (T : Trace) where
   -- an event races on its own record or on none
@@ -164,7 +164,7 @@ module _ (R : Rules) (T : Trace) (law : Lawful T) (fit : Fit R T) (Par : ℕ →
   clean-none (some j) e = absurd (let z : _≡_ {A = ℕ} 0 1 = cc in omega arith)
 
   -- and it is clean exactly if no record has a race
-  pub verdict-none : (verdictIn R T k ≡ clean) ↔ ((r : ℕ) → RaceFree R T law fit Par k tie r k)
+  pub verdict-none : (verdictIn R T k ≡ clean) ↔ ((r : ℕ) → RecordFree R T law fit Par k tie r k)
   unfolding verdictIn racedAny
   verdict-none = (
     λ e r m n h P.
@@ -173,5 +173,5 @@ module _ (R : Rules) (T : Trace) (law : Lawful T) (fit : Fit R T) (Par : ℕ →
     λ free. clean-all R T k (second-least R T k none (quiet-any free)) .0,
   )
     where
-      quiet-any : ((r : ℕ) → RaceFree R T law fit Par k tie r k) → Least (racedAny R T) k none
+      quiet-any : ((r : ℕ) → RecordFree R T law fit Par k tie r k) → Least (racedAny R T) k none
       quiet-any free n h = free-quiet R T law fit Par k tie (recordOf (T .act n)) k (omega arith) (free (recordOf (T .act n))) n h

@@ -1,16 +1,14 @@
 -- What an event makes of a record's places: nothing if it is no access of the record, if the record has raced, or if it is the second of
 -- the record's race; otherwise its own class's place follows the rule. Assumes nothing.
-use mathlib.Core.Path.{_≡_, refl, sym, ap, _∙_}
+use mathlib.Core.Path.{_≡_, refl, sym, _∙_}
 use mathlib.Core.Logic.{_≢_}
-use mathlib.Core.Bool.{Bool, true, false, cond, false≢true, _&&_}
+use mathlib.Core.Bool.{Bool, true, false, cond, false≢true}
 use mathlib.Core.Option.{Option, none, some}
 use Prim.Native.Nat.{ℕ, suc}
-use lib.Dec.{eqb}
-use borrow.Author.Tests.{eq-eqb, ne-eqb}
 use Rattle.races.specs.Search.{orHere, least}
 use Rattle.races.specs.Trace.{Act, other, access, Trace, Lawful, onRecord, isOf}
 use Rattle.races.specs.Rules.{Rules, Fit}
-use Rattle.races.specs.Places.{holds, stood, parTo, heldOf, inClass, held, firstOf, found}
+use Rattle.races.specs.Places.{holds, stood, parTo, heldOf, inClass, held, found}
 use Rattle.races.specs.Records.{secondOf, stopOf}
 use Rattle.races.specs.Shown.{shownAt}
 use Rattle.races.proofs.Found.{found-off, second-next}
@@ -53,7 +51,7 @@ module _ (R : Rules) (T : Trace) where
   unfolding stopOf
   stop-none r n e = rw e
 
-  pub stop-some : (r n j : ℕ) → secondOf R T r n ≡ some j → stopOf R T r n ≡ j
+  stop-some : (r n j : ℕ) → secondOf R T r n ≡ some j → stopOf R T r n ≡ j
   unfolding stopOf
   stop-some r n j e = rw e
 

@@ -1,15 +1,15 @@
 -- Each record's pair in the words of the definition, and that no other pair fits. Assumes nothing.
-use mathlib.Core.Path.{_≡_, refl, sym, ap, _∙_}
+use mathlib.Core.Path.{_≡_, refl, sym, _∙_}
 use mathlib.Core.Logic.{_↔_}
-use mathlib.Core.Bool.{Bool, true, false, false≢true}
-use mathlib.Core.Option.{Option, none, some, Option·getD}
-use Prim.Native.Nat.{ℕ, suc, _≤_, _<_}
+use mathlib.Core.Bool.{true, false, false≢true}
+use mathlib.Core.Option.{Option, none, some}
+use Prim.Native.Nat.{ℕ, _≤_, _<_}
 use native.Mathlib.Omega.{arith}
 use native.Mathlib.Decide.{decLe}
-use Rattle.races.specs.Trace.{Act, access, Trace, Lawful, classOf, recordOf}
+use Rattle.races.specs.Trace.{Trace, Lawful}
 use Rattle.races.specs.Rules.{Rules, Fit}
-use Rattle.races.specs.Places.{inClass, held, finds, firstOf, found}
-use Rattle.races.specs.Records.{Pair, no-pair, pair, raced, secondOf, pairAt, pairOf, RaceOn, FirstOn, PairOn, Tied}
+use Rattle.races.specs.Places.{inClass, finds, firstOf, found}
+use Rattle.races.specs.Records.{no-pair, pair, raced, secondOf, pairAt, pairOf, RaceOn, FirstOn, PairOn, Tied}
 use Rattle.races.proofs.Search.{not-true, Least, least-is, least-only}
 use Rattle.races.proofs.Standing.{held-below}
 use Rattle.races.proofs.Found.{Racing, raced-by, raced-finds, Finding, finds-parts, first-finding, finding-first, found-parts, found-racing, Quiet, places-enough}
@@ -30,17 +30,17 @@ module _ (R : Rules) (T : Trace) (law : Lawful T) (fit : Fit R T) (Par : ℕ →
     λ t. let w = raced-finds R T r j t in (w .0, racing-race r (w .0) j (w .1) h (w .2)),
   )
 
-  abbrev pub RaceFree : ℕ → ℕ → Type 0
-  RaceFree r j = (m n : ℕ) → n < j → ¬ RaceOn R T Par r m n
+  abbrev pub RecordFree : ℕ → ℕ → Type 0
+  RecordFree r j = (m n : ℕ) → n < j → ¬ RaceOn R T Par r m n
 
-  pub free-quiet : (r j : ℕ) → j ≤ k → RaceFree r j → Quiet R T r j
+  pub free-quiet : (r j : ℕ) → j ≤ k → RecordFree r j → Quiet R T r j
   free-quiet r j h free n l = not-true (raced R T r n) (λ t. let P = raced-is r n (omega arith) .1 t in free (P .0) n l (P .1))
 
-  pub quiet-free : (r j : ℕ) → j ≤ k → Quiet R T r j → RaceFree r j
+  quiet-free : (r j : ℕ) → j ≤ k → Quiet R T r j → RecordFree r j
   quiet-free r j h quiet m n l P = false≢true (sym (quiet n l) ∙ raced-is r n (omega arith) .0 (m, P))
 
   -- two places, or as many as the rules have, are enough
-  pub places-decide : (r j : ℕ) → j < k → RaceFree r j → ((m : ℕ) × RaceOn R T Par r m j) ↔ (found R T r j ≡ true)
+  pub places-decide : (r j : ℕ) → j < k → RecordFree r j → ((m : ℕ) × RaceOn R T Par r m j) ↔ (found R T r j ≡ true)
   places-decide r j h free =
       let e = places-enough R T law fit r j (free-quiet r j (omega arith) free) in
       (λ P. sym e ∙ raced-is r j h .0 P, λ t. raced-is r j h .1 (e ∙ t))
@@ -93,7 +93,7 @@ module _ (R : Rules) (T : Trace) (law : Lawful T) (fit : Fit R T) (Par : ℕ →
   named-first r i j N =
       finding-first R T r j i (says-first r j i (N .within) (race-racing r i j (N .within) (N .is-race) .parallel) (N .first))
 
-  pub named-second : (r i j : ℕ) → PairOn R T Par r k i j → secondOf R T r k ≡ some j
+  named-second : (r i j : ℕ) → PairOn R T Par r k i j → secondOf R T r k ≡ some j
   named-second r i j N = least-only (raced R T r) k (secondOf R T r k) (some j) (least-is (raced R T r) k) (named-least r i j N)
 
   named-pair : (r i j : ℕ) → PairOn R T Par r k i j → pairOf R T r k ≡ pair i j
@@ -126,7 +126,7 @@ module _ (R : Rules) (T : Trace) (law : Lawful T) (fit : Fit R T) (Par : ℕ →
   clean-none r (some j) e = absurd (let z : _≡_ {A = ℕ} 0 1 = cc in omega arith)
 
   -- and none exactly if it has no race
-  pub pair-none : (r : ℕ) → (pairOf R T r k ≡ no-pair) ↔ RaceFree r k
+  pub pair-none : (r : ℕ) → (pairOf R T r k ≡ no-pair) ↔ RecordFree r k
   unfolding pairOf
   pair-none r = (
     λ e. quiet-free r k (omega arith)

@@ -1,6 +1,6 @@
 -- What the searches below a number find. Assumes nothing.
 use mathlib.Core.Path.{_≡_, refl, sym, _∙_}
-use mathlib.Core.Bool.{Bool, true, false, cond, false≢true, _||_}
+use mathlib.Core.Bool.{Bool, true, false, false≢true, _||_}
 use mathlib.Core.Option.{Option, none, some}
 use Prim.Native.Nat.{ℕ, zero, suc, _≤_, _<_}
 use native.Mathlib.Omega.{arith}

@@ -3,17 +3,17 @@
 use mathlib.Core.Path.{_≡_, refl, sym, ap, _∙_}
 use mathlib.Core.Logic.{_⊎_, inl, inr, _≢_}
 use mathlib.Core.List.{List}
-use mathlib.Core.Bool.{Bool, true, false}
+use mathlib.Core.Bool.{Bool, false}
 use mathlib.Core.Option.{Option, none, some}
 use Prim.Native.Nat.{ℕ, suc, _+_, _<_}
 use native.Mathlib.Omega.{arith}
 use lib.ListN.{getD}
-use Rattle.races.specs.Trace.{Act, other, access, Trace, Lawful, onRecord}
+use Rattle.races.specs.Trace.{other, access, Trace, Lawful, onRecord}
 use Rattle.races.specs.Rules.{Rules, Fit}
-use Rattle.races.specs.Places.{holds, parTo, held, inClass, firstOf, found}
+use Rattle.races.specs.Places.{holds, parTo, held, inClass, firstOf}
 use Rattle.races.specs.Records.{secondOf}
-use Rattle.races.specs.Entries.{strandOr, Layout, Here, Holding}
-use Rattle.races.specs.Shown.{metOf, shownAt, Shown, Facing, Placeable, Placed}
+use Rattle.races.specs.Entries.{strandOr, Layout, HasPlace, Holding}
+use Rattle.races.specs.Shown.{metOf, shownAt, Shown, Facing, Accessible, Accessed}
 use Rattle.races.specs.declared.Met.{Met}
 use Rattle.races.specs.declared.Met.the-variants.{First, Nothing}
 use Rattle.races.proofs.Standing.{held-below}
@@ -50,7 +50,7 @@ module _ (R : Rules) (T : Trace) (Y : Layout) (records : ℕ) (P₀ : List ℕ) 
 
   -- What an engine reads in a place of a record that has not raced: the strand of what it holds, or none. If it can say of every earlier
   -- event's strand whether that event is parallel to event n, and says no of none, it can say so of the place.
-  pub told-by : Lawful T → (n : ℕ) (P : List ℕ) → Shown R T Y n records P₀ P → (r c : ℕ) → Here Y records r c → secondOf R T r n ≡ none
+  pub told-by : Lawful T → (n : ℕ) (P : List ℕ) → Shown R T Y n records P₀ P → (r c : ℕ) → HasPlace Y records r c → secondOf R T r n ≡ none
       → (ask : ℕ → Bool) → ask 4294967295 ≡ false → ((m : ℕ) → m < n → ask (T .strand m) ≡ T .par m n)
       → ask (getD P (Y .spot r c + Y .gap) 0) ≡ holds (parTo T n) (held R T r c n)
   told-by law n P S r c h e ask empty tells = rw (S .its-strand r c h, stop-none R T r n e) (go (held R T r c n) refl)
@@ -88,10 +88,10 @@ nothing-met none e = refl
 nothing-met (some g) e = absurd (let z : _≡_ {A = ℕ} 0 1 = cc in omega arith)
 
 -- no second answer and no second contents fit the contract of an access
-pub placed-once : (R : Rules) (Y : Layout) (told : ℕ → Bool) (P : List ℕ) (r b at strand : ℕ) (P′ P″ : List ℕ) (met met′ : Met)
-    → Placeable R Y told P r b at strand → Placed R Y told P r b at strand P′ met → Placed R Y told P r b at strand P″ met′
+pub accessed-once : (R : Rules) (Y : Layout) (told : ℕ → Bool) (P : List ℕ) (r b at strand : ℕ) (P′ P″ : List ℕ) (met met′ : Met)
+    → Accessible R Y told P r b at strand → Accessed R Y told P r b at strand P′ met → Accessed R Y told P r b at strand P″ met′
     → (P′ ≡ P″) × (met ≡ met′)
-placed-once R Y told P r b at strand P′ P″ met met′ K A B =
+accessed-once R Y told P r b at strand P′ P″ met met′ K A B =
     let x = A (K .T) (K .n) (K .records) (K .P₀) (K .arriving) in
     let y = B (K .T) (K .n) (K .records) (K .P₀) (K .arriving) in
     (shown-unique R (K .T) Y (K .records) (K .P₀) (suc (K .n)) P′ P″ (x .1) (y .1), x .0 ∙ sym (y .0))

@@ -21,14 +21,14 @@ holds-some test (some m) t = (m, refl, t)
 
 module _ (T : Trace) (law : Lawful T) where
   -- m is before k and parallel to j, so k is parallel to j
-  pub chained : (m k j : ℕ) (c : Bool) → m ≤ k → k ≤ j → T .par m k ≡ false → T .par m j ≡ true → T .par k j ≡ c → T .par k j ≡ true
+  chained : (m k j : ℕ) (c : Bool) → m ≤ k → k ≤ j → T .par m k ≡ false → T .par m j ≡ true → T .par k j ≡ c → T .par k j ≡ true
   chained m k j true mk kj f t e = e
   chained m k j false mk kj f t e = absurd (true≢false (sym t ∙ law .passes false m k j mk kj f e))
 
   module _ (class : ℕ → Bool) where
     -- those of the class are before one another
-    abbrev pub Chain : ℕ → Type 0
-    Chain n = (a b : ℕ) → a < b → b < n → class a ≡ true → class b ≡ true → T .par a b ≡ false
+    abbrev pub AllBefore : ℕ → Type 0
+    AllBefore n = (a b : ℕ) → a < b → b < n → class a ≡ true → class b ≡ true → T .par a b ≡ false
 
     -- m is before s, or s is parallel to m
     abbrev Near : ℕ → ℕ → Type 0
@@ -55,7 +55,7 @@ module _ (T : Trace) (law : Lawful T) where
         was m mn (inr k) true y = absurd (true≢false (sym (law .passes true s m n (k .0) (omega arith) (k .1) y) ∙ t))
         was m mn (inr k) false y = y
 
-    speaks-step : (n : ℕ) (latest b : Bool) (o : Option ℕ) → (latest ≡ true → Chain (suc n)) → class n ≡ b → Speaks n o
+    speaks-step : (n : ℕ) (latest b : Bool) (o : Option ℕ) → (latest ≡ true → AllBefore (suc n)) → class n ≡ b → Speaks n o
         → Speaks (suc n) (cond b (stood latest (parTo T n) n o) o)
     speaks-step n latest true none chain e l = comes n e (λ m mn z. absurd (false≢true (sym (l m mn) ∙ z)))
     speaks-step n true true (some s) chain e l = comes n e (λ m mn z. chain refl m n mn (omega arith) z e)
@@ -64,7 +64,7 @@ module _ (T : Trace) (law : Lawful T) where
     speaks-step n latest false (some s) chain e l =
         (omega arith, l .1, below (λ m. class m ≡ true → Near s m) n (l .2) (λ z. absurd (false≢true (sym e ∙ z))))
 
-    held-speaks : (latest : Bool) (n : ℕ) → (latest ≡ true → Chain n) → Speaks n (heldOf T latest class n)
+    held-speaks : (latest : Bool) (n : ℕ) → (latest ≡ true → AllBefore n) → Speaks n (heldOf T latest class n)
     unfolding heldOf
     held-speaks latest zero chain = λ m l. absurd (omega arith)
     held-speaks latest (suc n) chain =
@@ -84,7 +84,7 @@ module _ (T : Trace) (law : Lawful T) where
     standing-speaks j m = speaks-hit j m (heldOf T false class j) (held-speaks false j (λ t. absurd (false≢true t)))
 
     -- and with the last access kept
-    pub place-speaks : (latest : Bool) (j m : ℕ) → (latest ≡ true → Chain j) → m < j → class m ≡ true → T .par m j ≡ true
+    pub place-speaks : (latest : Bool) (j m : ℕ) → (latest ≡ true → AllBefore j) → m < j → class m ≡ true → T .par m j ≡ true
         → holds (parTo T j) (heldOf T latest class j) ≡ true
     place-speaks latest j m chain = speaks-hit j m (heldOf T latest class j) (held-speaks latest j chain)
 

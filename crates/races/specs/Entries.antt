@@ -30,22 +30,22 @@ pub record Layout : Type 0 where
   pub gap : ℕ
   pub classes : ℕ
 
-pub record Here (Y : Layout) (records r c : ℕ) : Type 0 where
+pub record HasPlace (Y : Layout) (records r c : ℕ) : Type 0 where
   pub on-record : r < records
   pub below : c < Y .classes
 
 -- the places of that many records are inside a buffer of that size, and no two share an entry
 pub record Laid (Y : Layout) (records size : ℕ) : Type 0 where
-  pub room : (r c : ℕ) → Here Y records r c → Y .spot r c + Y .gap < size
-  pub apart : (r c q d : ℕ) → Here Y records r c → Here Y records q d → Y .spot r c ≡ Y .spot q d → (r ≡ q) × (c ≡ d)
-  pub strands-apart : (r c q d : ℕ) → Here Y records r c → Here Y records q d → Y .spot r c ≢ Y .spot q d + Y .gap
+  pub room : (r c : ℕ) → HasPlace Y records r c → Y .spot r c + Y .gap < size
+  pub apart : (r c q d : ℕ) → HasPlace Y records r c → HasPlace Y records q d → Y .spot r c ≡ Y .spot q d → (r ≡ q) × (c ≡ d)
+  pub strands-apart : (r c q d : ℕ) → HasPlace Y records r c → HasPlace Y records q d → Y .spot r c ≢ Y .spot q d + Y .gap
 
 -- A buffer P that was lent as P₀ has what `what` says in the places. "Entries [..] of records at or over the record count, and past the
 -- lengths above keep what they had."
 pub record Holding (Y : Layout) (strand : ℕ → ℕ) (records : ℕ) (P₀ : List ℕ) (what : ℕ → ℕ → Option ℕ) (P : List ℕ) : Type 0 where
-  pub event : (r c : ℕ) → Here Y records r c → getD P (Y .spot r c) 0 ≡ eventOr (what r c)
-  pub its-strand : (r c : ℕ) → Here Y records r c → getD P (Y .spot r c + Y .gap) 0 ≡ strandOr strand (what r c)
-  pub others : (i : ℕ) → ((r c : ℕ) → Here Y records r c → (i ≢ Y .spot r c) × (i ≢ Y .spot r c + Y .gap)) → getD P i 0 ≡ getD P₀ i 0
+  pub event : (r c : ℕ) → HasPlace Y records r c → getD P (Y .spot r c) 0 ≡ eventOr (what r c)
+  pub its-strand : (r c : ℕ) → HasPlace Y records r c → getD P (Y .spot r c + Y .gap) 0 ≡ strandOr strand (what r c)
+  pub others : (i : ℕ) → ((r c : ℕ) → HasPlace Y records r c → (i ≢ Y .spot r c) × (i ≢ Y .spot r c + Y .gap)) → getD P i 0 ≡ getD P₀ i 0
   pub size : length P ≡ length P₀
 
 -- no place holds anything, whatever the strands are

@@ -43,5 +43,5 @@ two wrote stood (suc zero) = stood
 two wrote stood (suc (suc c)) = false
 
 -- a trace of events
-abbrev pub traceOf : (ℕ → Event) → Trace
-traceOf ev = record { act = λ n. actOf (accessOf (ev n)); par = par (moves ev); strand = strandAt (moves ev) }
+abbrev pub eventTrace : (ℕ → Event) → Trace
+eventTrace ev = record { act = λ n. actOf (accessOf (ev n)); par = par (moves ev); strand = strandAt (moves ev) }

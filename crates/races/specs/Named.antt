@@ -9,16 +9,16 @@ use Rattle.jobfile.specs.declared.event.Kind.the-variants.{Write, Read}
 use Rattle.relation.specs.Parallel.{Parallel}
 use Rattle.races.specs.Places.{held}
 use Rattle.races.specs.Records.{Verdict, verdictIn, stopIn}
-use Rattle.races.specs.Mark.{rank, rules, traceOf}
+use Rattle.races.specs.Mark.{rank, rules, eventTrace}
 use Rattle.races.specs.Race.{Race}
 
 module _ (ev : ℕ → Event) where
   -- the places of record r just before event n: "the last earlier write of the record", and "the standing read"
   abbrev pub lastWrite : ℕ → ℕ → Option ℕ
-  lastWrite r n = held rules (traceOf ev) r (rank Write) n
+  lastWrite r n = held rules (eventTrace ev) r (rank Write) n
 
   abbrev pub standing : ℕ → ℕ → Option ℕ
-  standing r n = held rules (traceOf ev) r (rank Read) n
+  standing r n = held rules (eventTrace ev) r (rank Read) n
 
   -- "The first is the last earlier write of the record if that is parallel to the second; otherwise the standing read.": event i is
   -- the first that goes with the second j on record r
@@ -38,7 +38,7 @@ module _ (ev : ℕ → Event) where
 
   -- the verdict of the first k events, and up to which event the buffers show them
   abbrev pub verdict : ℕ → Verdict
-  verdict k = verdictIn rules (traceOf ev) k
+  verdict k = verdictIn rules (eventTrace ev) k
 
   abbrev pub stopAt : ℕ → ℕ
-  stopAt k = stopIn rules (traceOf ev) k
+  stopAt k = stopIn rules (eventTrace ev) k

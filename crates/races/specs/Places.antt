@@ -1,10 +1,9 @@
 -- What the places of a record hold, one for each class, and which of them an access finds.
-use mathlib.Core.Path.{_≡_}
 use mathlib.Core.Bool.{Bool, true, false, cond, _&&_}
 use mathlib.Core.Option.{Option, none, some}
 use Prim.Native.Nat.{ℕ, zero, suc}
 use Rattle.races.specs.Search.{least}
-use Rattle.races.specs.Trace.{Act, Trace, isOf, onRecord, classOf}
+use Rattle.races.specs.Trace.{Trace, isOf, onRecord, classOf}
 use Rattle.races.specs.Rules.{Rules}
 
 -- what a place holds passes; an empty place does not

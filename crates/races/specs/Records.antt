@@ -6,7 +6,7 @@ use mathlib.Core.Bool.{Bool, true, _&&_}
 use mathlib.Core.Option.{Option, none, some, Option·getD}
 use Prim.Native.Nat.{ℕ, _≤_, _<_}
 use Rattle.races.specs.Search.{any, least}
-use Rattle.races.specs.Trace.{Act, Trace, access, onRecord, classOf, recordOf}
+use Rattle.races.specs.Trace.{Trace, access, onRecord, classOf, recordOf}
 use Rattle.races.specs.Rules.{Rules}
 use Rattle.races.specs.Places.{held, firstOf}
 

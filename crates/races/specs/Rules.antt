@@ -3,7 +3,7 @@
 use mathlib.Core.Path.{_≡_}
 use mathlib.Core.Bool.{Bool, true}
 use Prim.Native.Nat.{ℕ, _<_}
-use Rattle.races.specs.Trace.{Act, Trace, access}
+use Rattle.races.specs.Trace.{Trace, access}
 
 pub record Rules : Type 0 where
   -- how many classes there are: one place of each record for each

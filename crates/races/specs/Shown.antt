@@ -60,7 +60,7 @@ module _ (R : Rules) (T : Trace) where
     pub strand-fits : T .strand n < 4294967295
 
 -- what an access asks: some trace that the places show, with that access next
-pub record Placeable (R : Rules) (Y : Layout) (told : ℕ → Bool) (P : List ℕ) (r b at strand : ℕ) : Type 0 where
+pub record Accessible (R : Rules) (Y : Layout) (told : ℕ → Bool) (P : List ℕ) (r b at strand : ℕ) : Type 0 where
   pub T : Trace
   pub n : ℕ
   pub records : ℕ
@@ -69,7 +69,7 @@ pub record Placeable (R : Rules) (Y : Layout) (told : ℕ → Bool) (P : List �
 
 -- What it gives, for every such trace: the access that the rules name, or nothing; and the places one event further. "The racing access
 -- itself changes no place": the record is frozen from here on, and `Shown` says so.
-abbrev pub Placed : Rules → Layout → (ℕ → Bool) → List ℕ → ℕ → ℕ → ℕ → ℕ → List ℕ → Met → Type 0
-Placed R Y told P r b at strand P′ met =
+abbrev pub Accessed : Rules → Layout → (ℕ → Bool) → List ℕ → ℕ → ℕ → ℕ → ℕ → List ℕ → Met → Type 0
+Accessed R Y told P r b at strand P′ met =
     (T : Trace) (n records : ℕ) (P₀ : List ℕ) → Arriving R T Y n records P₀ P r b at strand told
     → (met ≡ metOf (firstOf R T r n)) × Shown R T Y (suc n) records P₀ P′

@@ -1,7 +1,7 @@
 -- What the theory of races reads of a trace: what each event does with which record, which events are parallel, the strand of each.
 -- It knows no kind of event, no task and no label: any trace whose `par` is lawful will do.
 use mathlib.Core.Path.{_≡_}
-use mathlib.Core.Bool.{Bool, true, false, _&&_}
+use mathlib.Core.Bool.{Bool, false, _&&_}
 use Prim.Native.Nat.{ℕ, _≤_}
 use lib.Dec.{eqb}
 

@@ -5,7 +5,7 @@ ghost use mathlib.Core.Bool.{cond};
 ghost use Prim.Native.Nat.{_+_, _<_, _≤_};
 ghost use lib.ListN.{length};
 ghost use Rattle.races.specs.Entries.{put, filled, Empty};
-ghost use Rattle.races.specs.Shown.{Placeable, Placed};
+ghost use Rattle.races.specs.Shown.{Accessible, Accessed};
 ghost use Rattle.races.specs.Mark.{rank, rules, layout, two};
 use jobfile::Kind;
 use limits::ITS_STRAND;
@@ -60,9 +60,9 @@ pub fn access(
     wrote: bool,
     stood: bool,
 ) -> Met
-    requires { ⌜ Placeable rules layout (two wrote stood) (now places) r (rank kind) at strand ⌝ }
+    requires { ⌜ Accessible rules layout (two wrote stood) (now places) r (rank kind) at strand ⌝ }
     requires { ⌜ 12288 + r < length (now places) ⌝ }
-    ensures { λ m. ⌜ Placed rules layout (two wrote stood) (now (places .entry)) r (rank kind) at strand (now (places .exit)) m ⌝ }
+    ensures { λ m. ⌜ Accessed rules layout (two wrote stood) (now (places .entry)) r (rank kind) at strand (now (places .exit)) m ⌝ }
 {
     match kind {
         Kind::Read => {

@@ -2,7 +2,7 @@
 -- its strand has begun. Assumes nothing.
 use mathlib.Core.Path.{sym, _∙_}
 use native.Mathlib.Omega.{arith}
-use Rattle.judging.proofs.Taking.{some-strands, record-below, may-ask, placeable, turns-race, turns-placed, ready, turns-moved}
+use Rattle.judging.proofs.Taking.{some-strands, record-below, may-ask, accessible, turns-race, turns-accessed, ready, turns-moved}
 use borrow.Author.Needs.{needs}
 use Rattle.judging.proofs.take.Statement.{statement}
 use Rattle.judging.proofs.take.Tie as tie
@@ -52,7 +52,7 @@ access-requires c κs =
     let wrote = c .before .before .before .before .asks .ensures in
     let stood = c .before .asks2 .ensures in
     let r = record-below asked _ (read .event-at .ensures) _ _ to in
-    (placeable asked _ (read .event-at .ensures) _ _ to _ _ wrote stood, omega (arith, asked .unraced .midway .places-room))
+    (accessible asked _ (read .event-at .ensures) _ _ to _ _ wrote stood, omega (arith, asked .unraced .midway .places-room))
 
 enum-known-first : tie.Need-enum-known-first
 enum-known-first c = search needs
@@ -103,7 +103,7 @@ returns-2 c =
     let asked = read .before .before .before .before .before .pre in
     let to = sym (arm .before .before .access-of .ensures) ∙ arm .kind .given .1 in
     let met = c .before .before .before .before in
-    turns-placed asked _ (read .event-at .ensures) _ _ to _ _ (met .before .before .before .before .before .asks .ensures) (met .before .before .asks2 .ensures) (met .access .last .0)
+    turns-accessed asked _ (read .event-at .ensures) _ _ to _ _ (met .before .before .before .before .before .asks .ensures) (met .before .before .asks2 .ensures) (met .access .last .0)
     (rw (c .enum-told .given .1) at (met .access .ensures))
 
 same-length-5 : tie.Need-same-length-5

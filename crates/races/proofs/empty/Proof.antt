@@ -1,9 +1,8 @@
 -- `empty` meets its contract: at the loop's head r entries are set. The measure is the entries that are left. Assumes nothing.
-use mathlib.Core.Path.{_≡_, refl, sym, _∙_}
+use mathlib.Core.Path.{_≡_, refl, _∙_}
 use Prim.Native.Nat.{_≤_, _-_}
 use native.Mathlib.Omega.{arith}
 use lib.ListN.{length, length-set}
-use borrow.Author.Needs.{needs}
 use Rattle.races.specs.Entries.{filled}
 use Rattle.races.proofs.Emptied.{filled-start, filled-more}
 use Rattle.races.proofs.empty.Statement.{statement}
