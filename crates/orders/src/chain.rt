@@ -3,8 +3,10 @@ ghost use mathlib.Core.Path.{_≡_};
 ghost use Prim.Native.Nat.{_+_, _<_, _≤_};
 ghost use lib.ListN.{length};
 ghost use Rattle.orders.specs.Order.{linked, nextIn};
+use limits::BACK;
+use limits::STRANDS;
 
-// Puts strand `new` between `after` and `next`, the strand after it, or 65535.
+// Puts strand `new` between `after` and `next`, the strand after it, or NO_LINK.
 // requires: the links are there, and `next` is what they say.
 pub fn link(links: &mut [u16], ln: usize, after: usize, new: usize, next: u16)
     requires { ⌜ ln + 8192 ≤ length (now links) ⌝ }
@@ -14,10 +16,10 @@ pub fn link(links: &mut [u16], ln: usize, after: usize, new: usize, next: u16)
 {
     links[ln + after] = new as u16;
     links[ln + new] = next;
-    links[ln + 4096 + new] = after as u16;
+    links[ln + BACK + new] = after as u16;
     let b = wide(next);
-    if b < 4096 {
-        links[ln + 4096 + b] = new as u16;
+    if b < STRANDS {
+        links[ln + BACK + b] = new as u16;
     }
 }
 

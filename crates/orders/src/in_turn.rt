@@ -8,6 +8,7 @@ ghost use Rattle.orders.specs.InTurn.{strandsFrom, Appendable, Appends};
 use crate::chain::link;
 use crate::spacing::put;
 use crate::spacing::spaced;
+use limits::NO_LINK;
 
 // How many labels an append set or changed, and how many strands from the first on then have the labels of their positions.
 pub struct Appending {
@@ -31,7 +32,7 @@ pub fn append(
     ensures { λ r. ⌜ Appends (now (labels .entry)) (now (links .entry)) lo ln new settled (r .settled) ⌝ }
 {
     let last = new - 1;
-    link(links, ln, last, new, 65535);
+    link(links, ln, last, new, NO_LINK);
     let a = labels[lo + last];
     let gap = 18446744073709551615 - a;
     if gap >= 2 {

@@ -9,6 +9,7 @@ use crate::chain::link;
 use crate::chain::wide;
 use crate::spacing::put;
 use crate::spacing::spaced;
+use limits::STRANDS;
 
 // Where the next respacing of an order starts: strand `from` stands at position `at`, and all that stand ahead of it have the labels of
 // their positions. Before the first respacing that is strand 0, at position 0; after one, with every strand ahead, `from` means nothing.
@@ -74,7 +75,7 @@ fn above(labels: &[u64], lo: usize, next: usize) -> u64
     requires { ⌜ lo + 4096 ≤ length (now labels) ⌝ }
     ensures { λ r. ⌜ r ≡ above (now (labels .entry)) lo next ⌝ }
 {
-    if next < 4096 {
+    if next < STRANDS {
         return labels[lo + next];
     }
     18446744073709551615

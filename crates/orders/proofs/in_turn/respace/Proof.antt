@@ -1,16 +1,16 @@
 -- `orders::in_turn::respace` meets its contract: at the loop's head what is done and what is left to do, the strands as they began from k
--- on, make the whole (`Turn`). Assumes nothing.
+-- on, make the whole (`Respacing`). Assumes nothing.
 use Prim.Native.Nat.{_-_, _≤_}
 use native.Mathlib.Omega.{arith}
 use borrow.Author.Needs.{needs}
 use Rattle.orders.specs.InTurn.{strandsFrom}
-use Rattle.orders.proofs.Respaced.{Turn, turn-start, turn-more, turn-done, strands-cons, strands-none, strands-below, differ-few}
+use Rattle.orders.proofs.Respaced.{Respacing, turn-start, turn-more, turn-done, strands-cons, strands-none, strands-below, differ-few}
 use Rattle.orders.proofs.in_turn.respace.Statement.{statement}
 use Rattle.orders.proofs.in_turn.respace.Tie as tie
 
 abbrev Inv-loop : tie.InvT-loop
 Inv-loop labels₀ lo at n k₀ changed₀ labels k changed =
-    (at ≤ k) × (k ≤ n) × Turn labels₀ lo at (strandsFrom at (n - at)) labels k changed (strandsFrom k (n - k))
+    (at ≤ k) × (k ≤ n) × Respacing labels₀ lo at (strandsFrom at (n - at)) labels k changed (strandsFrom k (n - k))
 
 abbrev μ-loop : tie.MeasureT-loop
 μ-loop labels₀ lo at n k₀ changed₀ labels k changed = n - k
