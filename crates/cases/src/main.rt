@@ -2,6 +2,7 @@
 // came out, a line for each. A job is written as in the rules: S, E, J, R and W, with the record.
 ghost use Prim.Native.Nat.{_+_, _≤_};
 ghost use lib.ListN.{length};
+ghost use Rattle.jobfile.specs.Lent.{is};
 ghost use Rattle.io.specs.Counts.{Counts};
 use judging::Answer;
 use libc::STDOUT_FILENO;
@@ -83,7 +84,7 @@ fn record(job: &[u8], at: usize) -> u8 {
 // requires: the place is not past the end.
 fn put_event(events: &mut [u8], at: usize, kind: u8, record: u8) -> usize
     requires { ⌜ at ≤ length (now events) ⌝ }
-    ensures { λ r. ⌜ r ≤ length (now (events .exit)) ⌝ }
+    ensures { λ r. ⌜ r ≤ length (is events) ⌝ }
 {
     if kind == 0 {
         return at;
@@ -102,7 +103,7 @@ fn put_event(events: &mut [u8], at: usize, kind: u8, record: u8) -> usize
 // requires: the place is not past the end.
 fn put_job(events: &mut [u8], start: usize, job: &[u8]) -> usize
     requires { ⌜ start ≤ length (now events) ⌝ }
-    ensures { λ r. ⌜ r ≤ length (now (events .exit)) ⌝ }
+    ensures { λ r. ⌜ r ≤ length (is events) ⌝ }
 {
     let mut at = start;
     let mut i = 0;
@@ -117,7 +118,7 @@ fn put_job(events: &mut [u8], start: usize, job: &[u8]) -> usize
 // requires: the place is not past the end.
 fn repeat(events: &mut [u8], start: usize, times: usize, job: &[u8]) -> usize
     requires { ⌜ start ≤ length (now events) ⌝ }
-    ensures { λ r. ⌜ Counts r (now (events .exit)) ⌝ }
+    ensures { λ r. ⌜ Counts r (is events) ⌝ }
 {
     let mut at = start;
     let mut i = 0;

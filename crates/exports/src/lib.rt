@@ -5,6 +5,7 @@
 ghost use mathlib.Core.Path.{_≡_};
 ghost use Prim.Native.Nat.{_≤_};
 ghost use lib.ListN.{length};
+ghost use Rattle.jobfile.specs.Lent.{was, is};
 ghost use Rattle.jobfile.specs.File.{checkOf, eventCount};
 ghost use Rattle.writing.specs.Written.{writeOf, outAfter};
 ghost use Rattle.relation.specs.Question.{questionOf};
@@ -17,7 +18,7 @@ use writing::Written;
 // Reads a file: refusal, event, name's length, events' start, events' length, records.
 #[no_mangle]
 pub extern "C" fn rz_read(file: &[u8], answer: &mut [u64; 6])
-    ensures { λ _. ⌜ now (answer .exit) ≡ readNumbers (checkOf (now (file .entry))) ⌝ }
+    ensures { λ _. ⌜ is answer ≡ readNumbers (checkOf (was file)) ⌝ }
 {
     *answer = read_numbers(jobfile::check(file));
 }
@@ -31,8 +32,8 @@ pub extern "C" fn rz_write(
     out: &mut [u8],
     answer: &mut [u64; 3],
 )
-    ensures { λ _. ⌜ now (answer .exit) ≡ writeNumbers (writeOf (now (name .entry)) records (now (events .entry)) (length (now (out .entry)))) ⌝ }
-    ensures { λ _. ⌜ now (out .exit) ≡ outAfter (now (name .entry)) records (now (events .entry)) (now (out .entry)) ⌝ }
+    ensures { λ _. ⌜ is answer ≡ writeNumbers (writeOf (was name) records (was events) (length (was out))) ⌝ }
+    ensures { λ _. ⌜ is out ≡ outAfter (was name) records (was events) (was out) ⌝ }
 {
     *answer = write_numbers(writing::write(name, records as usize, events, out));
 }
@@ -40,7 +41,7 @@ pub extern "C" fn rz_write(
 // Asks about events i and j of a file: refusal, event, answer.
 #[no_mangle]
 pub extern "C" fn rz_question(file: &[u8], i: u64, j: u64, answer: &mut [u64; 3])
-    ensures { λ _. ⌜ now (answer .exit) ≡ questionNumbers (questionOf (now (file .entry)) i j) ⌝ }
+    ensures { λ _. ⌜ is answer ≡ questionNumbers (questionOf (was file) i j) ⌝ }
 {
     *answer = question_numbers(relation::question(file, i as usize, j as usize));
 }
@@ -56,8 +57,8 @@ pub extern "C" fn rz_judge(
     places: &mut [u32],
     answer: &mut [u64; 9],
 )
-    ensures { λ _. ⌜ now (answer .exit) ≡ judgeNumbers (judgeOf (now (file .entry)) k (length (now (labels .entry))) (length (now (links .entry))) (length (now (places .entry)))) ⌝ }
-    ensures { λ _. ⌜ Leaves (judgeOf (now (file .entry)) k (length (now (labels .entry))) (length (now (links .entry))) (length (now (places .entry)))) (now (file .entry)) k (now (labels .entry)) (now (links .entry)) (now (places .entry)) (now (labels .exit)) (now (links .exit)) (now (places .exit)) ⌝ }
+    ensures { λ _. ⌜ is answer ≡ judgeNumbers (judgeOf (was file) k (length (was labels)) (length (was links)) (length (was places))) ⌝ }
+    ensures { λ _. ⌜ Leaves (judgeOf (was file) k (length (was labels)) (length (was links)) (length (was places))) (was file) k (was labels) (was links) (was places) (is labels) (is links) (is places) ⌝ }
 {
     *answer = judge_numbers(judging::judge(file, k as usize, labels, links, places));
 }

@@ -4,6 +4,7 @@ ghost use mathlib.Core.Bool.{_&&_};
 ghost use Prim.Native.Nat.{_+_, _*_, _≤_};
 ghost use lib.Dec.{eqb};
 ghost use lib.ListN.{length};
+ghost use Rattle.jobfile.specs.Lent.{was};
 ghost use Rattle.jobfile.specs.Coding.{decodeAt, toldOf, numberOf, DecodeFits};
 ghost use Rattle.jobfile.specs.Trace.{eventAt};
 use crate::event::Event;
@@ -56,7 +57,7 @@ fn bare(kind: u16, number: u16, this: u16) -> bool
 // requires: the four bytes are there; the callers walk a part that holds whole events.
 pub fn decode(part: &[u8], at: usize) -> Decoded
     requires { ⌜ at + 4 ≤ length (now part) ⌝ }
-    ensures { λ r. ⌜ r ≡ decodeAt (now (part .entry)) at ⌝ }
+    ensures { λ r. ⌜ r ≡ decodeAt (was part) at ⌝ }
     ensures { λ r. ⌜ DecodeFits r ⌝ }
 {
     event_of(
@@ -79,7 +80,7 @@ pub fn number_of(d: Decoded) -> u32
 // requires: the event's four bytes are there; the callers walk a part that holds whole events.
 pub fn event_at(part: &[u8], n: usize) -> Event
     requires { ⌜ 4 * n + 4 ≤ length (now part) ⌝ }
-    ensures { λ r. ⌜ r ≡ eventAt (now (part .entry)) n ⌝ }
+    ensures { λ r. ⌜ r ≡ eventAt (was part) n ⌝ }
 {
     match decode(part, 4 * n) {
         Decoded::Event(e) => e,

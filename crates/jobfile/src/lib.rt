@@ -26,6 +26,7 @@ pub use trailer::printable;
 ghost use mathlib.Core.Path.{_≡_};
 ghost use Prim.Native.Nat.{_*_};
 ghost use lib.ListN.{length};
+ghost use Rattle.jobfile.specs.Lent.{was};
 ghost use Rattle.jobfile.specs.File.{checkOf, CheckFits, nameLength, eventCount};
 ghost use Rattle.jobfile.specs.Part.{Part};
 
@@ -45,8 +46,8 @@ pub enum Checked {
 
 // The check of a whole file: refusals 1 to 13.
 pub fn check(file: &[u8]) -> Checked
-    ensures { λ r. ⌜ r ≡ checkOf (now (file .entry)) ⌝ }
-    ensures { λ r. ⌜ CheckFits r (length (now (file .entry))) ⌝ }
+    ensures { λ r. ⌜ r ≡ checkOf (was file) ⌝ }
+    ensures { λ r. ⌜ CheckFits r (length (was file)) ⌝ }
 {
     match trailer::read_head(file) {
         trailer::Head::Refused(k) => Checked::Refused(refuse(k, 0)),
@@ -71,7 +72,7 @@ pub fn check(file: &[u8]) -> Checked
 
 // The name: the front part of the caller's own file, or an empty part of it where the file is refused.
 pub fn name<'a>(file: &'a [u8]) -> &'a [u8]
-    ensures { λ r. ⌜ Part r (file .entry) 0 (nameLength (checkOf (now (file .entry)))) ⌝ }
+    ensures { λ r. ⌜ Part r (file .entry) 0 (nameLength (checkOf (was file))) ⌝ }
 {
     match check(file) {
         Checked::Accepted(j) => {
@@ -85,7 +86,7 @@ pub fn name<'a>(file: &'a [u8]) -> &'a [u8]
 // The events: the part of the caller's own file that starts mid-file, or an empty part of it where
 // the file is refused.
 pub fn events<'a>(file: &'a [u8]) -> &'a [u8]
-    ensures { λ r. ⌜ Part r (file .entry) (nameLength (checkOf (now (file .entry)))) (4 * eventCount (checkOf (now (file .entry)))) ⌝ }
+    ensures { λ r. ⌜ Part r (file .entry) (nameLength (checkOf (was file))) (4 * eventCount (checkOf (was file))) ⌝ }
 {
     match check(file) {
         Checked::Accepted(j) => {

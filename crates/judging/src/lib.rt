@@ -3,6 +3,7 @@
 // Every byte string, every k and buffers of any length are dealt with. A refusal stores nothing.
 ghost use mathlib.Core.Path.{_≡_};
 ghost use lib.ListN.{length};
+ghost use Rattle.jobfile.specs.Lent.{was, is};
 ghost use Rattle.judging.specs.Answers.{judgeOf, judgeFault, judgedOf};
 ghost use Rattle.judging.specs.Buffers.{Leaves, Shows};
 ghost use Rattle.judging.specs.Turns.{Run, Turnable, Taken};
@@ -56,8 +57,8 @@ pub fn judge(
     links: &mut [u16],
     places: &mut [u32],
 ) -> Answer
-    ensures { λ r. ⌜ r ≡ judgeOf (now (file .entry)) k (length (now (labels .entry))) (length (now (links .entry))) (length (now (places .entry))) ⌝ }
-    ensures { λ r. ⌜ Leaves r (now (file .entry)) k (now (labels .entry)) (now (links .entry)) (now (places .entry)) (now (labels .exit)) (now (links .exit)) (now (places .exit)) ⌝ }
+    ensures { λ r. ⌜ r ≡ judgeOf (was file) k (length (was labels)) (length (was links)) (length (was places)) ⌝ }
+    ensures { λ r. ⌜ Leaves r (was file) k (was labels) (was links) (was places) (is labels) (is links) (is places) ⌝ }
 {
     match jobfile::check(file) {
         Checked::Refused(r) => Answer::Refused(r),
@@ -76,8 +77,8 @@ pub fn judge_job(
     places: &mut [u32],
 ) -> Answer
     requires { ⌜ checkOf (now file) ≡ Accepted job ⌝ }
-    ensures { λ r. ⌜ r ≡ judgeOf (now (file .entry)) k (length (now (labels .entry))) (length (now (links .entry))) (length (now (places .entry))) ⌝ }
-    ensures { λ r. ⌜ Leaves r (now (file .entry)) k (now (labels .entry)) (now (links .entry)) (now (places .entry)) (now (labels .exit)) (now (links .exit)) (now (places .exit)) ⌝ }
+    ensures { λ r. ⌜ r ≡ judgeOf (was file) k (length (was labels)) (length (was links)) (length (was places)) ⌝ }
+    ensures { λ r. ⌜ Leaves r (was file) k (was labels) (was links) (was places) (is labels) (is links) (is places) ⌝ }
 {
     let fault = judge_fault(job, k, labels.len(), links.len(), places.len());
     if fault != 0 {
@@ -124,8 +125,8 @@ fn run(
 ) -> Answer
     requires { ⌜ Run (now part) records k ⌝ }
     requires { ⌜ (8192 ≤ length (now labels)) × (16384 ≤ length (now links)) × (16384 ≤ length (now places)) ⌝ }
-    ensures { λ r. ⌜ r ≡ judgedOf (eventAt (now (part .entry))) k ⌝ }
-    ensures { λ _. ⌜ Shows (eventAt (now (part .entry))) (stopAt (eventAt (now (part .entry))) k) records (now (labels .entry)) (now (links .entry)) (now (places .entry)) (now (labels .exit)) (now (links .exit)) (now (places .exit)) ⌝ }
+    ensures { λ r. ⌜ r ≡ judgedOf (eventAt (was part)) k ⌝ }
+    ensures { λ _. ⌜ Shows (eventAt (was part)) (stopAt (eventAt (was part)) k) records (was labels) (was links) (was places) (is labels) (is links) (is places) ⌝ }
 {
     races::clear(places, records);
     let mut lasts = [0; 64];
@@ -179,7 +180,7 @@ fn take(
     places: &mut [u32],
 ) -> Turn
     requires { ⌜ Turnable (now part) i (memory labels links) (tasks lasts joins) (now places) state ⌝ }
-    ensures { λ r. ⌜ Taken (now (part .entry)) i state lasts joins labels links places r ⌝ }
+    ensures { λ r. ⌜ Taken (was part) i state lasts joins labels links places r ⌝ }
 {
     let e = jobfile::event_at(part, i);
     match jobfile::access_of(e) {
@@ -203,7 +204,7 @@ fn take(
 // Whether the place whose event is at `at` holds an access that is parallel to `strand`, the current one: its Hebrew label is above.
 fn asks(places: &[u32], labels: &[u64], at: usize, strand: usize) -> bool
     requires { ⌜ Askable (now places) (now labels) at strand ⌝ }
-    ensures { λ r. ⌜ r ≡ heldAbove (now (labels .entry)) (now (places .entry)) at strand ⌝ }
+    ensures { λ r. ⌜ r ≡ heldAbove (was labels) (was places) at strand ⌝ }
 {
     let other = held_or(wide(places[at + ITS_STRAND]), strand);
     labels[HEBREW_LABELS + strand] < labels[HEBREW_LABELS + other]

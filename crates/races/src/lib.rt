@@ -4,6 +4,7 @@ ghost use mathlib.Core.Path.{_≡_};
 ghost use mathlib.Core.Bool.{cond};
 ghost use Prim.Native.Nat.{_+_, _<_, _≤_};
 ghost use lib.ListN.{length};
+ghost use Rattle.jobfile.specs.Lent.{was, is};
 ghost use Rattle.races.specs.Entries.{put, filled, Empty};
 ghost use Rattle.races.specs.Shown.{Accessible, Accessed};
 ghost use Rattle.races.specs.Mark.{rank, rules, layout, two};
@@ -23,7 +24,7 @@ pub enum Met {
 pub fn clear(places: &mut [u32], records: usize)
     requires { ⌜ 16384 ≤ length (now places) ⌝ }
     requires { ⌜ records ≤ 4096 ⌝ }
-    ensures { λ _. ⌜ Empty layout records (now (places .entry)) (now (places .exit)) ⌝ }
+    ensures { λ _. ⌜ Empty layout records (was places) (is places) ⌝ }
 {
     empty(places, 0, records);
     empty(places, ITS_STRAND, records);
@@ -34,8 +35,8 @@ pub fn clear(places: &mut [u32], records: usize)
 // Makes as many entries from `from` on none: one fill of memory for each of the four parts.
 fn empty(places: &mut [u32], from: usize, records: usize)
     requires { ⌜ from + records ≤ length (now places) ⌝ }
-    ensures { λ _. ⌜ now (places .exit) ≡ filled (now (places .entry)) from records ⌝ }
-    ensures { λ _. ⌜ length (now (places .exit)) ≡ length (now (places .entry)) ⌝ }
+    ensures { λ _. ⌜ is places ≡ filled (was places) from records ⌝ }
+    ensures { λ _. ⌜ length (is places) ≡ length (was places) ⌝ }
 {
     let mut r: usize = 0;
     while r < records {
@@ -62,7 +63,7 @@ pub fn access(
 ) -> Met
     requires { ⌜ Accessible rules layout (two wrote stood) (now places) r (rank kind) at strand ⌝ }
     requires { ⌜ 12288 + r < length (now places) ⌝ }
-    ensures { λ m. ⌜ Accessed rules layout (two wrote stood) (now (places .entry)) r (rank kind) at strand (now (places .exit)) m ⌝ }
+    ensures { λ m. ⌜ Accessed rules layout (two wrote stood) (was places) r (rank kind) at strand (is places) m ⌝ }
 {
     match kind {
         Kind::Read => {
@@ -94,7 +95,7 @@ pub fn access(
 // Puts an event and its strand into the place whose event is at `at`.
 fn put(places: &mut [u32], at: usize, event: u32, strand: u32)
     requires { ⌜ at + 4096 < length (now places) ⌝ }
-    ensures { λ _. ⌜ now (places .exit) ≡ put (now (places .entry)) at 4096 event strand ⌝ }
+    ensures { λ _. ⌜ is places ≡ put (was places) at 4096 event strand ⌝ }
 {
     places[at] = event;
     places[at + ITS_STRAND] = strand;

@@ -2,6 +2,7 @@
 ghost use mathlib.Core.Path.{_≡_};
 ghost use mathlib.Core.Bool.{true};
 ghost use Prim.Native.Nat.{_+_, _≤_, _<_};
+ghost use Rattle.jobfile.specs.Lent.{was};
 ghost use Rattle.jobfile.specs.Trace.{eventAt, moves};
 ghost use Rattle.relation.specs.Walk.{move, par};
 ghost use Rattle.relation.specs.Between.{walkerOf, Stretch};
@@ -20,7 +21,7 @@ pub struct Walker {
 // requires: q is an event of the part, and no end up to it closes the root.
 pub fn parallel(part: &[u8], p: usize, q: usize) -> bool
     requires { ⌜ Stretch (now part) p q ⌝ }
-    ensures { λ r. ⌜ r ≡ par (moves (eventAt (now (part .entry)))) p q ⌝ }
+    ensures { λ r. ⌜ r ≡ par (moves (eventAt (was part))) p q ⌝ }
 {
     let mut w = Walker {
         height: 0,

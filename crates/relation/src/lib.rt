@@ -8,6 +8,7 @@ ghost use mathlib.Core.Path.{_≡_};
 ghost use mathlib.Core.Bool.{_&&_};
 ghost use Prim.Native.Nat.{_<_};
 ghost use lib.Dec.{ltb};
+ghost use Rattle.jobfile.specs.Lent.{was};
 ghost use Rattle.jobfile.specs.Trace.{eventAt, moves};
 ghost use Rattle.relation.specs.Between.{Stretch};
 ghost use Rattle.relation.specs.Question.{questionOf, askedOf, compareOf, isAccess, accessAt};
@@ -32,7 +33,7 @@ pub enum Related {
 // The question about events i and j of a file: the check of the file, then one pass over the
 // events between the two.
 pub fn question(file: &[u8], i: usize, j: usize) -> Related
-    ensures { λ r. ⌜ r ≡ questionOf (now (file .entry)) i j ⌝ }
+    ensures { λ r. ⌜ r ≡ questionOf (was file) i j ⌝ }
 {
     match check(file) {
         Checked::Refused(r) => Related::Refused(r),
@@ -48,7 +49,7 @@ pub fn question(file: &[u8], i: usize, j: usize) -> Related
 // requires: the part holds the events, and no end closes the root.
 fn asked(part: &[u8], count: usize, i: usize, j: usize) -> Related
     requires { ⌜ Stretch (now part) 0 count ⌝ }
-    ensures { λ r. ⌜ r ≡ askedOf (eventAt (now (part .entry))) count i j ⌝ }
+    ensures { λ r. ⌜ r ≡ askedOf (eventAt (was part)) count i j ⌝ }
 {
     let below = both(i < count, j < count);
     let access = both(access_at(part, count, i), access_at(part, count, j));
@@ -74,7 +75,7 @@ fn both(a: bool, b: bool) -> bool
 // requires: as `asked`.
 fn access_at(part: &[u8], count: usize, n: usize) -> bool
     requires { ⌜ Stretch (now part) 0 count ⌝ }
-    ensures { λ r. ⌜ r ≡ (ltb n count && accessAt (eventAt (now (part .entry))) n) ⌝ }
+    ensures { λ r. ⌜ r ≡ (ltb n count && accessAt (eventAt (was part)) n) ⌝ }
 {
     if n >= count {
         return false;
@@ -97,7 +98,7 @@ fn is_access(a: Access) -> bool
 fn compare(part: &[u8], count: usize, i: usize, j: usize) -> Related
     requires { ⌜ Stretch (now part) 0 count ⌝ }
     requires { ⌜ (i < count) × (j < count) ⌝ }
-    ensures { λ r. ⌜ r ≡ compareOf (moves (eventAt (now (part .entry)))) i j ⌝ }
+    ensures { λ r. ⌜ r ≡ compareOf (moves (eventAt (was part))) i j ⌝ }
 {
     if i == j {
         return Related::Same;
