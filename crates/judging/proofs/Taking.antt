@@ -1,9 +1,9 @@
 -- One event of the run: an access that finds something is the second of the race, any other one goes into a place or changes none, and an
 -- event that is no access is behind once its strand has begun. Assumes nothing.
-use mathlib.Core.Path.{_≡_, refl, ap}
+use mathlib.Core.Path.{_≡_, refl, ap, _∙_}
 use mathlib.Core.List.{List}
 use mathlib.Core.Bool.{Bool, false}
-use mathlib.Core.Option.{none}
+use mathlib.Core.Option.{some}
 use Prim.Native.Nat.{ℕ, suc, _+_, _-_, _≤_, _<_}
 use native.Mathlib.Omega.{arith}
 use Rattle.jobfile.specs.Events.{accessOf, moveOf}
@@ -16,21 +16,22 @@ use Rattle.jobfile.specs.declared.event.Access.the-variants.{None, To}
 use Rattle.jobfile.proofs.Accesses.{access-stays}
 use Rattle.relation.proofs.Strand.{begun-some}
 use Rattle.strands.specs.Memory.{Memory, OpenTasks}
-use Rattle.strands.specs.Reached.{Reached, Takes, Ready, Advances}
+use Rattle.strands.specs.Reached.{Takes, Ready, Advances}
 use Rattle.strands.specs.declared.Now.{Now}
 use Rattle.strands.proofs.Events.{nothing-advances}
-use Rattle.races.specs.Trace.{other, onRecord, recordOf}
+use Rattle.races.specs.Trace.{onRecord, recordOf}
 use Rattle.races.specs.Places.{firstOf, found}
-use Rattle.races.specs.Shown.{Arriving, Accessible, Accessed}
+use Rattle.races.specs.Records.{secondOf}
+use Rattle.races.specs.Shown.{Shown, Arriving, Accessible, Accessed}
 use Rattle.races.specs.Mark.{rank, actOf, rules, layout, two, eventTrace}
 use Rattle.races.specs.declared.Met.the-variants.{First, Nothing}
 use Rattle.races.proofs.Found.{found-none, found-off}
-use Rattle.races.proofs.Shown.{first-met, nothing-met, shown-other, shown-racing}
+use Rattle.races.proofs.Shown.{first-met, nothing-met, shown-other, shown-frozen, shown-racing}
 use Rattle.races.proofs.OneRace.{all-unraced, still-none, stops-here}
 use Rattle.races.proofs.Named.{lawful, fit}
 use Rattle.judging.specs.declared.Turn.the-variants.{Go, Raced}
 use Rattle.judging.specs.Asking.{heldAbove, Askable}
-use Rattle.judging.specs.Turns.{Run, Unraced, Turnable, Turns}
+use Rattle.judging.specs.Turns.{Run, Midway, Unraced, Turnable, Turns}
 use Rattle.judging.proofs.Asking.{run-rooted, on-record, askable, arriving}
 
 -- event i may be taken
@@ -42,12 +43,37 @@ taken {i = i} R h = record {
   few = R .accepted .few (suc i) (omega (arith, R .within));
 }
 
--- an access does not move: the state of the strands is that behind it
-access-reached : {part : List ℕ} {records k i : ℕ} {M₀ M : Memory} {T : OpenTasks} {now : Now} (kind : Kind) (r : ℕ) → Run part records k → i < k
-    → accessOf (eventAt part i) ≡ To kind r → Reached (moves (eventAt part)) i M₀ M T now → Reached (moves (eventAt part)) (suc i) M₀ M T now
-access-reached {part = part} {i = i} {M₀ = M₀} {M = M} {T = T} {now = now} kind r R h e S =
-    nothing-advances M T now Stays T (refl, refl, refl, refl) (moves (eventAt part)) i M₀ S
-    (rw (access-stays (eventAt part i) kind r e) at (taken R h))
+-- One event further, whatever has raced so far.
+module _ {part : List ℕ} {records k : ℕ} {M₀ M : Memory} {P₀ P : List ℕ} {T : OpenTasks} {now : Now} {i : ℕ}
+    (R : Run part records k) (next : i < k) (S : Midway part records M₀ P₀ M T P now i) where
+  -- an access does not move: the state of the strands is that behind it
+  access-midway : (kind : Kind) (r : ℕ) → accessOf (eventAt part i) ≡ To kind r → (P′ : List ℕ)
+      → Shown rules (eventTrace (eventAt part)) layout (suc i) records P₀ P′ → Midway part records M₀ P₀ M T P′ now (suc i)
+  access-midway kind r e P′ shown = record {
+    reached = nothing-advances M T now Stays T (refl, refl, refl, refl) (moves (eventAt part)) i M₀ (S .reached)
+        (rw (access-stays (eventAt part i) kind r e) at (taken R next));
+    shown = shown;
+    places-room = omega (arith, shown .size, S .shown .size, S .places-room);
+  }
+
+  -- an access of a record that has raced is left alone
+  pub frozen-midway : (kind : Kind) (r j : ℕ) → accessOf (eventAt part i) ≡ To kind r → secondOf rules (eventTrace (eventAt part)) r i ≡ some j
+      → Midway part records M₀ P₀ M T P now (suc i)
+  frozen-midway kind r j e raced =
+      let ev = eventAt part in
+      access-midway kind r e P
+      (shown-frozen rules (eventTrace ev) layout records P₀ (lawful ev) (fit ev) i P (S .shown) r (rank kind) j (ap actOf e) raced)
+
+  -- an event that is no access
+  move-midway : accessOf (eventAt part i) ≡ None → (M′ : Memory) (T′ : OpenTasks) (after : Now) → Advances M T now (moveOf (eventAt part i)) M′ T′ after
+      → Midway part records M₀ P₀ M′ T′ P after (suc i)
+  move-midway e M′ T′ after advances =
+      let ev = eventAt part in
+      record {
+        reached = advances (moves ev) i M₀ (S .reached) (taken R next);
+        shown = shown-other rules (eventTrace ev) layout records P₀ (lawful ev) (fit ev) i P (S .shown) (ap actOf e);
+        places-room = S .places-room;
+      }
 
 -- what the next event asks, and what it gives; e is the event that was read
 module _ {part : List ℕ} {i : ℕ} {M : Memory} {T : OpenTasks} {P : List ℕ} {now : Now} (A : Turnable part i M T P now)
@@ -85,9 +111,9 @@ module _ {part : List ℕ} {i : ℕ} {M : Memory} {T : OpenTasks} {P : List ℕ}
 
       pub turns-race : (P′ : List ℕ) (first : ℕ) → Accessed rules layout (two wrote stood) P r (rank kind) i (now .strands - 1) P′ (First first)
           → Turns part i M T P now M T P′ (Raced first r)
-      turns-race P′ first placed records k M₀ P₀ R h U =
+      turns-race P′ first accessed records k M₀ P₀ R h U =
           let J = arrives records k M₀ P₀ R h U in
-          let p = placed (eventTrace (eventAt part)) i records P₀ J in
+          let p = accessed (eventTrace (eventAt part)) i records P₀ J in
           let f = first-met (firstOf rules (eventTrace (eventAt part)) r i) first (p .0) in (
             record {
               reached = U .midway .reached;
@@ -99,24 +125,23 @@ module _ {part : List ℕ} {i : ℕ} {M : Memory} {T : OpenTasks} {P : List ℕ}
 
       pub turns-accessed : (P′ : List ℕ) → Accessed rules layout (two wrote stood) P r (rank kind) i (now .strands - 1) P′ Nothing
           → Turns part i M T P now M T P′ (Go now)
-      turns-accessed P′ placed records k M₀ P₀ R h U =
-          let T′ = eventTrace (eventAt part) in
-          let p = placed T′ i records P₀ (arrives records k M₀ P₀ R h U) in
-          let own : recordOf (T′ .act i) ≡ r = ap (λ a. recordOf (actOf a)) to-record in
-          let f : found rules T′ (recordOf (T′ .act i)) i ≡ false = rw own (found-none rules T′ r i (nothing-met (firstOf rules T′ r i) (p .0))) in
+      turns-accessed P′ accessed records k M₀ P₀ R h U =
+          let tr = eventTrace (eventAt part) in
+          let p = accessed tr i records P₀ (arrives records k M₀ P₀ R h U) in
+          let own : recordOf (tr .act i) ≡ r = ap (λ a. recordOf (actOf a)) to-record in
+          let f : found rules tr (recordOf (tr .act i)) i ≡ false = rw own (found-none rules tr r i (nothing-met (firstOf rules tr r i) (p .0))) in
           record {
-            midway = record {
-              reached = access-reached kind r R h to-record (U .midway .reached);
-              shown = p .1;
-              places-room = omega (arith, p .1 .size, U .midway .shown .size, U .midway .places-room);
-            };
-            none-raced = still-none rules T′ (lawful (eventAt part)) (fit (eventAt part)) i (U .none-raced) f;
+            midway = access-midway R h (U .midway) kind r to-record P′ (p .1);
+            none-raced = still-none rules tr (lawful (eventAt part)) (fit (eventAt part)) i (U .none-raced) f;
           }
 
   -- an event that is no access, and its move
   module _ (to : accessOf e ≡ None) (m : Move) (is : m ≡ moveOf e) where
-    takes : {records k : ℕ} → Run part records k → i < k → Takes (moves (eventAt part)) i m
-    takes R h = rw (is, same) (taken R h)
+    no-access : accessOf (eventAt part i) ≡ None
+    no-access = rw (← same) to
+
+    its-move : m ≡ moveOf (eventAt part i)
+    its-move = is ∙ ap moveOf same
 
     pub ready : Ready M T now m
     ready = record {
@@ -124,19 +149,15 @@ module _ {part : List ℕ} {i : ℕ} {M : Memory} {T : OpenTasks} {P : List ℕ}
       n = i;
       M₀ = A .M₀;
       reached = A .unraced .midway .reached;
-      takes = takes (A .run) (A .next);
+      takes = rw its-move (taken (A .run) (A .next));
     }
 
-    pub turns-moved : (M′ : Memory) (T′ : OpenTasks) (next : Now) → Advances M T now m M′ T′ next → Turns part i M T P now M′ T′ P (Go next)
-    turns-moved M′ T′ next advanced records k M₀ P₀ R h U =
+    pub turns-moved : (M′ : Memory) (T′ : OpenTasks) (after : Now) → Advances M T now m M′ T′ after → Turns part i M T P now M′ T′ P (Go after)
+    turns-moved M′ T′ after advances records k M₀ P₀ R h U =
         let tr = eventTrace (eventAt part) in
-        let none : accessOf (eventAt part i) ≡ None = rw (← same) to in
-        let still : tr .act i ≡ other = ap actOf none in
+        let own = recordOf (tr .act i) in
         record {
-          midway = record {
-            reached = advanced (moves (eventAt part)) i M₀ (U .midway .reached) (takes R h);
-            shown = shown-other rules tr layout records P₀ (lawful (eventAt part)) (fit (eventAt part)) i P (U .midway .shown) still;
-            places-room = U .midway .places-room;
-          };
-          none-raced = still-none rules tr (lawful (eventAt part)) (fit (eventAt part)) i (U .none-raced) (found-off rules tr (recordOf (tr .act i)) i (ap (onRecord (recordOf (tr .act i))) still));
+          midway = move-midway R h (U .midway) no-access M′ T′ after (rw its-move at advances);
+          none-raced = still-none rules tr (lawful (eventAt part)) (fit (eventAt part)) i (U .none-raced)
+              (found-off rules tr own i (ap (λ a. onRecord own (actOf a)) no-access));
         }
