@@ -1,3 +1,3 @@
 -- What the proofs of the calls use.
-mod Few
-pub mod Once
+mod EventCounts
+pub mod OneAnswer

@@ -2,7 +2,7 @@ pub mod Tests
 pub mod Head
 pub mod Moves
 pub mod Turns
-pub mod Whole
+pub mod Checking
 pub mod Told
 pub mod Accepted
 pub mod Accesses

@@ -3,4 +3,4 @@ pub mod Puts
 pub mod Delivered
 pub mod Parts
 pub mod Lines
-pub mod Once
+pub mod OneAnswer

@@ -16,7 +16,7 @@ use Rattle.jobfile.specs.declared.Job.{Job}
 use Rattle.jobfile.specs.declared.refusal.Refusal.{Refusal}
 use Rattle.jobfile.specs.declared.Checked.{Checked}
 use Rattle.jobfile.specs.declared.Checked.the-variants.{Accepted, Refused as Unread}
-use Rattle.jobfile.proofs.Whole.{accepted-fits, accepted}
+use Rattle.jobfile.proofs.Checking.{accepted-fits, accepted}
 use Rattle.races.specs.Records.{Verdict, clean, race}
 use Rattle.races.specs.Named.{verdict}
 use Rattle.races.proofs.Named.{verdict-race}

@@ -4,7 +4,7 @@ use mathlib.Core.List.{List}
 use Prim.Native.Nat.{ℕ}
 use native.Mathlib.Omega.{arith}
 use lib.ListN.{length-take, length-drop}
-use Rattle.jobfile.proofs.Whole.{accepted, accepted-fits}
+use Rattle.jobfile.proofs.Checking.{accepted, accepted-fits}
 use Rattle.jobfile.specs.File.{checkOf, eventsFrom}
 use Rattle.jobfile.specs.declared.Checked.the-variants.{Accepted, Refused as Unread}
 use Rattle.jobfile.specs.declared.Job.{Job}

@@ -7,7 +7,7 @@ use mathlib.Core.List.{List}
 use Prim.Native.Nat.{ℕ, _≤_, _<_}
 use native.Mathlib.Omega.{arith}
 use native.Mathlib.Decide.{decLe}
-use Rattle.jobfile.proofs.Whole.{accepted}
+use Rattle.jobfile.proofs.Checking.{accepted}
 use Rattle.jobfile.specs.declared.Job.{Job}
 use Rattle.jobfile.specs.declared.event.Move.{Move}
 use Rattle.jobfile.specs.Trace.{moves}

@@ -2,7 +2,7 @@
 use borrow.Author.Needs.{needs}
 use mathlib.Core.Path.{ap, _∙_}
 use Rattle.exports.specs.Numbers.{readNumbers}
-use Rattle.exports.proofs.Few.{few-events}
+use Rattle.exports.proofs.EventCounts.{few-events}
 use Rattle.exports.proofs.rz_read.Statement.{statement}
 use Rattle.exports.proofs.rz_read.Tie as tie
 

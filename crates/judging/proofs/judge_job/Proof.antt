@@ -1,7 +1,7 @@
 -- `judging::judge_job` meets its contract: a test that fails stores nothing; otherwise the answer and the buffers are those of the run over
 -- the events. Assumes nothing.
 use native.Mathlib.Omega.{arith}
-use Rattle.jobfile.proofs.Whole.{accepted-fits}
+use Rattle.jobfile.proofs.Checking.{accepted-fits}
 use Rattle.judging.proofs.Files.{judge-refused, file-run, judge-run, leaves-run}
 use borrow.Author.Needs.{needs}
 use Rattle.judging.proofs.judge_job.Statement.{statement}

@@ -3,7 +3,7 @@
 use native.Mathlib.Omega.{arith}
 use mathlib.Core.Path.{sym}
 use lib.Seq.{length-take-le}
-use Rattle.jobfile.proofs.Whole.{accepted-fits}
+use Rattle.jobfile.proofs.Checking.{accepted-fits}
 use Rattle.line.proofs.Parts.{pair-there, line-is, leaves-all, start-short}
 use borrow.Author.Needs.{needs}
 use Rattle.line.proofs.judged.Statement.{statement}

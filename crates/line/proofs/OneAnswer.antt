@@ -4,7 +4,7 @@ use mathlib.Core.List.{List}
 use Prim.Native.Nat.{ℕ}
 use lib.ListN.{length}
 use Rattle.jobfile.specs.File.{checkOf, eventCount}
-use Rattle.judging.proofs.Once.{judged-once}
+use Rattle.judging.proofs.OneAnswer.{judged-once}
 use Rattle.line.specs.declared.Lined.{Lined}
 use Rattle.line.specs.Line.{answerOf, LineGives}
 

@@ -1,7 +1,7 @@
 -- No second answer and no second contents of the buffers fit the contract of `rz_judge`: judging has the theorem. Assumes nothing.
 use mathlib.Core.Path.{refl, sym, _∙_}
-use Rattle.judging.proofs.Once.{judged-once}
-use Rattle.exports.specs.Once.{JudgedOnce}
+use Rattle.judging.proofs.OneAnswer.{judged-once}
+use Rattle.exports.specs.OneAnswer.{JudgedOnce}
 
 pub rz-judged-once : JudgedOnce
 rz-judged-once file k L₀ K₀ P₀ A L K P A′ L′ K′ P′ a b =
