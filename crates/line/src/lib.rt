@@ -9,7 +9,7 @@ ghost use mathlib.Core.Path.{_≡_};
 ghost use Prim.Native.Nat.{_≤_};
 ghost use lib.ListN.{length};
 ghost use Rattle.line.specs.Line.{linedOf, outOf, LineFits, LineGives};
-use text::put;
+use bytes_at::put;
 
 // How many bytes the line has; or that the output is shorter than it.
 pub enum Lined {

@@ -4,7 +4,7 @@ use native.Mathlib.Omega.{arith}
 use mathlib.Core.Path.{_≡_, _∙_}
 use lib.ListN.{length, take}
 use Rattle.line.specs.Line.{lineOf}
-use Rattle.line.proofs.Puts.{put-counted}
+use Rattle.bytes_at.proofs.Puts.{put-counted}
 use Rattle.line.proofs.Parts.{answered, name-size}
 use borrow.Author.Needs.{needs}
 use Rattle.line.proofs.line.Statement.{statement}

@@ -1,7 +1,7 @@
 -- `kinds` meets its contract: the letters of both events behind the word. Assumes nothing.
 use native.Mathlib.Omega.{arith}
 use Rattle.line.specs.Text.{kindsText}
-use Rattle.line.proofs.Puts.{put-put}
+use Rattle.bytes_at.proofs.Puts.{put-put}
 use borrow.Author.Needs.{needs}
 use Rattle.line.proofs.answers.kinds.Statement.{statement}
 use Rattle.line.proofs.answers.kinds.Tie as tie
