@@ -8,9 +8,9 @@ use lib.ListN.{length, drop}
 use borrow.Author.Tests.{lt-ltb, le-ltb}
 use Rattle.io.specs.Counts.{Counts}
 use Rattle.line.specs.declared.Lined.the-variants.{Bytes, Short}
-use Rattle.line.specs.Put.{Put}
+use Rattle.bytes_at.specs.Put.{Put}
 use Rattle.line.specs.Line.{linedOf, outOf}
-use Rattle.line.proofs.Puts.{put-whole, put-counted}
+use Rattle.bytes_at.proofs.Puts.{put-whole, put-counted}
 
 module _ (line out : List ℕ) where
   pub too-short : length out < length line → length line ≤ 256 → (Short ≡ linedOf line (length out)) × ((out ≡ outOf line out) × (length out < 256))

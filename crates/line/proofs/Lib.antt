@@ -1,5 +1,4 @@
 pub mod Digits
-pub mod Puts
 pub mod Delivered
 pub mod Parts
 pub mod Lines

@@ -11,7 +11,7 @@ use Rattle.judging.specs.Answers.{judgeOf}
 use Rattle.judging.specs.Buffers.{Leaves}
 use Rattle.judging.specs.declared.Answer.{Answer}
 use Rattle.line.specs.Text.{answerText}
-use Rattle.line.specs.Put.{Put}
+use Rattle.bytes_at.specs.Put.{Put}
 use Rattle.line.specs.declared.Lined.{Lined}
 use Rattle.line.specs.declared.Lined.the-variants.{Bytes, Short}
 

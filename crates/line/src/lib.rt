@@ -12,9 +12,9 @@ ghost use Rattle.jobfile.specs.File.{checkOf};
 ghost use Rattle.jobfile.specs.Lent.{was, is};
 ghost use Rattle.jobfile.specs.declared.Checked.the-variants.{Accepted};
 ghost use Rattle.line.specs.Line.{linedOf, outOf, LineFits, LineGives, TextGives};
+use bytes_at::put;
 use jobfile::Checked;
 use jobfile::Job;
-use text::put;
 
 // How many bytes the line has; or that the output is shorter than it.
 pub enum Lined {

@@ -1,22 +1,10 @@
-// Bytes, numbers and fields, put at a place of a buffer. Each function answers where the next go.
+// Numbers and fields, put at a place of a buffer. Each function answers where the next bytes go.
 ghost use mathlib.Core.List.{_++_};
 ghost use Prim.Native.Nat.{_+_, _≤_};
 ghost use lib.ListN.{length};
 ghost use Rattle.line.specs.Text.{digitsOf};
-ghost use Rattle.line.specs.Put.{Put};
-
-// requires: there is room for the bytes.
-pub fn put(out: &mut [u8], at: usize, bytes: &[u8]) -> usize
-    requires { ⌜ at + length (now bytes) ≤ length (now out) ⌝ }
-    ensures { λ r. ⌜ Put (now (out .entry)) at (now (bytes .entry)) r (now (out .exit)) ⌝ }
-{
-    let mut i = 0;
-    while i < bytes.len() {
-        out[at + i] = bytes[i];
-        i += 1;
-    }
-    at + i
-}
+ghost use Rattle.bytes_at.specs.Put.{Put};
+use bytes_at::put;
 
 // A number in decimal.
 // requires: there is room for the 20 digits that the largest has.

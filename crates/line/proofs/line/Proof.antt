@@ -3,7 +3,7 @@ use native.Mathlib.Omega.{arith}
 use mathlib.Core.Path.{_≡_, _∙_}
 use lib.ListN.{length, take}
 use Rattle.line.specs.Line.{lineOf}
-use Rattle.line.proofs.Puts.{put-counted}
+use Rattle.bytes_at.proofs.Puts.{put-counted}
 use borrow.Author.Needs.{needs}
 use Rattle.line.proofs.line.Statement.{statement}
 use Rattle.line.proofs.line.Tie as tie

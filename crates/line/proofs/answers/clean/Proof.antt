@@ -1,6 +1,6 @@
 -- `clean` meets its contract: the word, the counts and the name, one behind another. Assumes nothing.
 use native.Mathlib.Omega.{arith}
-use Rattle.line.proofs.Puts.{put-put}
+use Rattle.bytes_at.proofs.Puts.{put-put}
 use borrow.Author.Needs.{needs}
 use Rattle.line.proofs.answers.clean.Statement.{statement}
 use Rattle.line.proofs.answers.clean.Tie as tie

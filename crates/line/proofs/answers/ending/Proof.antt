@@ -1,7 +1,7 @@
 -- `ending` meets its contract: the word, the name and the line feed, one behind another. Assumes nothing.
 use native.Mathlib.Omega.{arith}
 use Rattle.line.specs.Text.{nameText}
-use Rattle.line.proofs.Puts.{put-put}
+use Rattle.bytes_at.proofs.Puts.{put-put}
 use borrow.Author.Needs.{needs}
 use Rattle.line.proofs.answers.ending.Statement.{statement}
 use Rattle.line.proofs.answers.ending.Tie as tie

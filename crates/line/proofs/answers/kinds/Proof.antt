@@ -3,7 +3,7 @@ use native.Mathlib.Omega.{arith}
 use mathlib.Core.Path.{ap, _∙_}
 use Rattle.jobfile.specs.Events.{accessOf}
 use Rattle.line.specs.Text.{kindsText}
-use Rattle.line.proofs.Puts.{put-put}
+use Rattle.bytes_at.proofs.Puts.{put-put}
 use borrow.Author.Needs.{needs}
 use Rattle.line.proofs.answers.kinds.Statement.{statement}
 use Rattle.line.proofs.answers.kinds.Tie as tie

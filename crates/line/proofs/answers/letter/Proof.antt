@@ -1,6 +1,6 @@
 -- `letter` meets its contract: one byte for each kind, and none for what is no access. Assumes nothing.
 use native.Mathlib.Omega.{arith}
-use Rattle.line.proofs.Puts.{put-none}
+use Rattle.bytes_at.proofs.Puts.{put-none}
 use borrow.Author.Needs.{needs}
 use Rattle.line.proofs.answers.letter.Statement.{statement}
 use Rattle.line.proofs.answers.letter.Tie as tie

@@ -1,7 +1,7 @@
 -- `pair` meets its contract: three fields, one behind another. Assumes nothing.
 use native.Mathlib.Omega.{arith}
 use Rattle.line.specs.Text.{pairText}
-use Rattle.line.proofs.Puts.{put-put}
+use Rattle.bytes_at.proofs.Puts.{put-put}
 use borrow.Author.Needs.{needs}
 use Rattle.line.proofs.answers.pair.Statement.{statement}
 use Rattle.line.proofs.answers.pair.Tie as tie

@@ -1,6 +1,6 @@
 -- `race` meets its contract: the pair, the kinds, the counts and the name, one behind another. Assumes nothing.
 use native.Mathlib.Omega.{arith}
-use Rattle.line.proofs.Puts.{put-put}
+use Rattle.bytes_at.proofs.Puts.{put-put}
 use borrow.Author.Needs.{needs}
 use Rattle.line.proofs.answers.race.Statement.{statement}
 use Rattle.line.proofs.answers.race.Tie as tie

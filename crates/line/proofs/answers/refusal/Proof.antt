@@ -1,7 +1,7 @@
 -- `refusal` meets its contract: two fields and the line feed, one behind another. Assumes nothing.
 use native.Mathlib.Omega.{arith}
 use Rattle.line.specs.Text.{refusalText}
-use Rattle.line.proofs.Puts.{put-put}
+use Rattle.bytes_at.proofs.Puts.{put-put}
 use borrow.Author.Needs.{needs}
 use Rattle.line.proofs.answers.refusal.Statement.{statement}
 use Rattle.line.proofs.answers.refusal.Tie as tie

@@ -1,6 +1,6 @@
 -- `field` meets its contract: the number is put behind the word. Assumes nothing.
 use native.Mathlib.Omega.{arith}
-use Rattle.line.proofs.Puts.{put-put}
+use Rattle.bytes_at.proofs.Puts.{put-put}
 use borrow.Author.Needs.{needs}
 use Rattle.line.proofs.text.field.Statement.{statement}
 use Rattle.line.proofs.text.field.Tie as tie

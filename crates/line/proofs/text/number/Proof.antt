@@ -10,7 +10,7 @@ use Rattle.line.proofs.text.number.Tie as tie
 use Rattle.line.proofs.text.number.Reads as reads
 use Rattle.line.proofs.text.number.Lts as lts
 use Rattle.io.proofs.decimal.Reads as decimal-reads
-use Rattle.line.proofs.text.put.Reads as put-reads
+use Rattle.bytes_at.proofs.put.Reads as put-reads
 
 decimal-requires : tie.Need-decimal-requires
 decimal-requires c κs = search needs

@@ -1,27 +1,30 @@
 -- Bytes put one after another are put as one. Assumes nothing.
-use Prim.Native.Nat.{ℕ, _+_, _≤_, _<_}
+use Prim.Native.Nat.{ℕ, _+_, _-_, _≤_}
 use native.Mathlib.Omega.{arith}
-use native.Mathlib.Nat.{zero-add}
-use native.Mathlib.Numerals.{add-one}
+use native.Mathlib.Nat.{zero-add, le-refl}
 use mathlib.Core.Path.{_≡_, refl, sym, _∙_}
 use mathlib.Core.List.{List, [], _++_, append-assoc, append-nil}
-use lib.ListN.{length, take, drop, set, getD, length-append, take-append-drop}
-use lib.Seq.{paste, paste-suc, take-paste, drop-paste, take-length, drop-drop}
-use Rattle.line.specs.Put.{Put}
+use lib.ListN.{length, take, drop, length-append, length-drop, take-append-drop, drop-of-length-le}
+use lib.Seq.{paste, take-paste, drop-paste, take-length, take-all, drop-drop}
+use Rattle.bytes_at.specs.Put.{Put}
 
-module _ (d : List ℕ) (at : ℕ) (s : List ℕ) where
-  -- one byte more of a copy
-  pub copy-more : (o : List ℕ) (i : ℕ) → o ≡ paste d at s i → at + i < length d → i < length s → set o (at + i) (getD s i 0) ≡ paste d at s (i + 1)
-  copy-more o i e h k = rw (e, add-one) (paste-suc d at s i 0 h k)
+-- a copy to the front of what stands from `at` on; `part` is what stands there then
+module _ (d : List ℕ) (at : ℕ) (s part : List ℕ) (fits : at + length s ≤ length d)
+    (copy : part ≡ take (length s) s ++ drop (length s) (take (length d - at) (drop at d))) where
+  left : length (drop at d) ≤ length d - at
+  left = omega (arith, length-drop at d)
 
-  -- a copy of all the bytes
-  pub copied : (o : List ℕ) (i : ℕ) → at + length s ≤ length d → i ≡ length s → o ≡ paste d at s i → Put d at s (at + i) o
-  copied o i fits all e =
+  pasted : take at d ++ (part ++ drop (length d - at) (drop at d)) ≡ paste d at s (length s)
+  pasted =
+      rw (drop-of-length-le (drop at d) {i = length d - at} left, append-nil, copy, take-all (length d - at) (drop at d) left, drop-drop (length s) at d)
+      (sym (append-assoc (take at d) (take (length s) s) (drop (at + length s) d)))
+
+  pub copied : (n : ℕ) → n ≡ length s → Put d at s (at + n) (take at d ++ (part ++ drop (length d - at) (drop at d)))
+  copied n all =
       let h : at ≤ length d = omega arith in
-      let k : i ≤ length s = omega arith in
       record {
-        front = rw (e, take-paste d at s i h k, all, take-length);
-        rest = rw (e, drop-paste d at s i h k);
+        front = rw (all, pasted, take-paste d at s (length s) h (le-refl (length s)), take-length);
+        rest = rw (all, pasted, drop-paste d at s (length s) h (le-refl (length s)));
         count = rw all;
       }
 
