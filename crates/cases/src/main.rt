@@ -132,8 +132,8 @@ fn repeat(events: &mut [u8], start: usize, times: usize, job: &[u8]) -> usize
 // The answer for all events of a job of two records. The writer refuses what the reader would.
 fn judged(name: &[u8], events: &[u8], labels: &mut [u64]) -> Answer {
     let mut file = io::large_buffer();
-    let mut links = [0u16; 16384];
-    let mut places = [0u32; 16384];
+    let mut links = [0u16; limits::LINKS];
+    let mut places = [0u32; limits::PLACES];
     match writing::write(name, 2, events, &mut file) {
         Written::Bytes(n) => judging::judge(
             &file[..n],
@@ -148,7 +148,7 @@ fn judged(name: &[u8], events: &[u8], labels: &mut [u64]) -> Answer {
 
 // So many times one job, then so many times another.
 fn run(times: usize, job: &[u8], again: usize, then: &[u8]) {
-    let mut labels = [0u64; 8192];
+    let mut labels = [0u64; limits::LABELS];
     let mut events = io::large_buffer();
     let n = repeat(&mut events, 0, times, job);
     let m = repeat(&mut events, n, again, then);
@@ -181,7 +181,7 @@ fn three(word: &[u8], labels: &[u64], at: usize)
 
 // The whole file of the rules, with the labels that it leaves.
 fn whole() {
-    let mut labels = [0u64; 8192];
+    let mut labels = [0u64; limits::LABELS];
     let mut events = io::large_buffer();
     let job = b"W0 S R0 W1 E R0 W1 J";
     let n = repeat(&mut events, 0, 1, job);
@@ -189,7 +189,7 @@ fn whole() {
     say(job);
     report(judged(b"L4", &events[..n], &mut labels));
     three(b"L4 English labels ", &labels, 0);
-    three(b"L4 Hebrew labels ", &labels, 4096);
+    three(b"L4 Hebrew labels ", &labels, limits::HEBREW_LABELS);
 }
 
 fn one_to_ten() {

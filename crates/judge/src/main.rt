@@ -4,9 +4,9 @@ use libc::STDOUT_FILENO;
 
 // An output of 256 bytes is never too short, as the contract of `line` says.
 fn print_line(input: &[u8]) {
-    let mut labels = [0u64; 8192];
-    let mut links = [0u16; 16384];
-    let mut places = [0u32; 16384];
+    let mut labels = [0u64; limits::LABELS];
+    let mut links = [0u16; limits::LINKS];
+    let mut places = [0u32; limits::PLACES];
     let mut out = [0u8; 256];
     match line::line(input, &mut labels, &mut links, &mut places, &mut out) {
         line::Lined::Bytes(n) => {

@@ -20,6 +20,11 @@ use jobfile::Job;
 use jobfile::Refusal;
 use limits::HEBREW_LABELS;
 use limits::ITS_STRAND;
+use limits::LABELS;
+use limits::LINKS;
+use limits::NO_STRAND;
+use limits::OPEN_TASKS;
+use limits::PLACES;
 use limits::STANDING_READS;
 use limits::STRANDS;
 use races::Met;
@@ -99,16 +104,16 @@ fn judge_fault(j: Job, k: usize, labels: usize, links: usize, places: usize) -> 
     if k > j.events {
         return 15;
     }
-    if labels < 8192 {
+    if labels < LABELS {
         return 14;
     }
-    if links < 16384 {
+    if links < LINKS {
         return 14;
     }
-    if places < 16384 {
+    if places < PLACES {
         return 14;
     }
-    if j.strands > 4096 {
+    if j.strands > STRANDS {
         return 17;
     }
     0
@@ -129,8 +134,8 @@ fn run(
     ensures { λ _. ⌜ Shows (eventAt (was part)) (stopAt (eventAt (was part)) k) records (was labels) (was links) (was places) (is labels) (is links) (is places) ⌝ }
 {
     races::clear(places, records);
-    let mut lasts = [0; 64];
-    let mut joins = [65535; 64];
+    let mut lasts = [0; OPEN_TASKS];
+    let mut joins = [NO_STRAND; OPEN_TASKS];
     let mut state = strands::begin(labels, links);
     let mut i = 0;
     while i < k {
@@ -173,8 +178,8 @@ fn take(
     part: &[u8],
     i: usize,
     state: Now,
-    lasts: &mut [usize; 64],
-    joins: &mut [usize; 64],
+    lasts: &mut [usize; OPEN_TASKS],
+    joins: &mut [usize; OPEN_TASKS],
     labels: &mut [u64],
     links: &mut [u16],
     places: &mut [u32],

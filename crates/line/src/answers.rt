@@ -2,6 +2,7 @@
 ghost use mathlib.Core.Path.{_≡_};
 ghost use Prim.Native.Nat.{_+_, _*_, _≤_};
 ghost use lib.ListN.{length};
+ghost use Rattle.jobfile.specs.Lent.{was, is};
 ghost use Rattle.jobfile.specs.Events.{accessOf};
 ghost use Rattle.jobfile.specs.Trace.{eventAt};
 ghost use Rattle.line.specs.Text.{letterOf, pairText, kindsText, countsText, nameText, cleanText, raceText, refusalText, answerText, PairWithin};
@@ -17,7 +18,7 @@ use judging::Answer;
 // requires: there is room for it.
 fn letter(out: &mut [u8], at: usize, access: Access) -> usize
     requires { ⌜ at + 1 ≤ length (now out) ⌝ }
-    ensures { λ r. ⌜ Put (now (out .entry)) at (letterOf access) r (now (out .exit)) ⌝ }
+    ensures { λ r. ⌜ Put (was out) at (letterOf access) r (is out) ⌝ }
     ensures { λ r. ⌜ r ≤ at + 1 ⌝ }
 {
     match access {
@@ -32,7 +33,7 @@ fn letter(out: &mut [u8], at: usize, access: Access) -> usize
 // requires: there is room for three words and three numbers.
 fn pair(out: &mut [u8], number: usize, first: usize, second: usize) -> usize
     requires { ⌜ 87 ≤ length (now out) ⌝ }
-    ensures { λ r. ⌜ Put (now (out .entry)) 0 (pairText number first second) r (now (out .exit)) ⌝ }
+    ensures { λ r. ⌜ Put (was out) 0 (pairText number first second) r (is out) ⌝ }
     ensures { λ r. ⌜ r ≤ 87 ⌝ }
 {
     let a = field(out, 0, b"race record ", number);
@@ -45,7 +46,7 @@ fn kinds(out: &mut [u8], at: usize, events: &[u8], first: usize, second: usize) 
     requires { ⌜ at + 9 ≤ length (now out) ⌝ }
     requires { ⌜ 4 * first + 4 ≤ length (now events) ⌝ }
     requires { ⌜ 4 * second + 4 ≤ length (now events) ⌝ }
-    ensures { λ r. ⌜ Put (now (out .entry)) at (kindsText (accessOf (eventAt (now (events .entry)) first)) (accessOf (eventAt (now (events .entry)) second))) r (now (out .exit)) ⌝ }
+    ensures { λ r. ⌜ Put (was out) at (kindsText (accessOf (eventAt (was events) first)) (accessOf (eventAt (was events) second))) r (is out) ⌝ }
     ensures { λ r. ⌜ r ≤ at + 9 ⌝ }
 {
     let a = jobfile::access_of(jobfile::event_at(events, first));
@@ -58,7 +59,7 @@ fn kinds(out: &mut [u8], at: usize, events: &[u8], first: usize, second: usize) 
 // requires: there is room for three words and three numbers.
 fn counts(out: &mut [u8], at: usize, strands: usize, english: usize, hebrew: usize) -> usize
     requires { ⌜ at + 86 ≤ length (now out) ⌝ }
-    ensures { λ r. ⌜ Put (now (out .entry)) at (countsText strands english hebrew) r (now (out .exit)) ⌝ }
+    ensures { λ r. ⌜ Put (was out) at (countsText strands english hebrew) r (is out) ⌝ }
     ensures { λ r. ⌜ r ≤ at + 86 ⌝ }
 {
     let a = field(out, at, b" strands ", strands);
@@ -69,8 +70,8 @@ fn counts(out: &mut [u8], at: usize, strands: usize, english: usize, hebrew: usi
 // requires: there is room for the name and seven bytes more.
 fn ending(out: &mut [u8], at: usize, name: &[u8]) -> usize
     requires { ⌜ at + length (now name) + 7 ≤ length (now out) ⌝ }
-    ensures { λ r. ⌜ Put (now (out .entry)) at (nameText (now (name .entry))) r (now (out .exit)) ⌝ }
-    ensures { λ r. ⌜ r ≤ at + length (now (name .entry)) + 7 ⌝ }
+    ensures { λ r. ⌜ Put (was out) at (nameText (was name)) r (is out) ⌝ }
+    ensures { λ r. ⌜ r ≤ at + length (was name) + 7 ⌝ }
 {
     let word = put(out, at, b" name ");
     let named = put(out, word, name);
@@ -80,7 +81,7 @@ fn ending(out: &mut [u8], at: usize, name: &[u8]) -> usize
 // requires: there is room for two words, two numbers and a line feed.
 pub fn refusal(out: &mut [u8], refused: Refusal) -> usize
     requires { ⌜ 56 ≤ length (now out) ⌝ }
-    ensures { λ r. ⌜ Put (now (out .entry)) 0 (refusalText refused) r (now (out .exit)) ⌝ }
+    ensures { λ r. ⌜ Put (was out) 0 (refusalText refused) r (is out) ⌝ }
     ensures { λ r. ⌜ r ≤ 56 ⌝ }
 {
     let a = field(out, 0, b"refused ", refused.number as usize);
@@ -91,8 +92,8 @@ pub fn refusal(out: &mut [u8], refused: Refusal) -> usize
 // requires: there is room for the name and 98 bytes more.
 fn clean(out: &mut [u8], strands: usize, english: usize, hebrew: usize, name: &[u8]) -> usize
     requires { ⌜ length (now name) + 98 ≤ length (now out) ⌝ }
-    ensures { λ r. ⌜ Put (now (out .entry)) 0 (cleanText strands english hebrew (now (name .entry))) r (now (out .exit)) ⌝ }
-    ensures { λ r. ⌜ r ≤ length (now (name .entry)) + 98 ⌝ }
+    ensures { λ r. ⌜ Put (was out) 0 (cleanText strands english hebrew (was name)) r (is out) ⌝ }
+    ensures { λ r. ⌜ r ≤ length (was name) + 98 ⌝ }
 {
     let a = put(out, 0, b"clean");
     let b = counts(out, a, strands, english, hebrew);
@@ -114,8 +115,8 @@ fn race(
     requires { ⌜ length (now name) + 189 ≤ length (now out) ⌝ }
     requires { ⌜ 4 * first + 4 ≤ length (now events) ⌝ }
     requires { ⌜ 4 * second + 4 ≤ length (now events) ⌝ }
-    ensures { λ r. ⌜ Put (now (out .entry)) 0 (raceText first second number strands english hebrew (now (events .entry)) (now (name .entry))) r (now (out .exit)) ⌝ }
-    ensures { λ r. ⌜ r ≤ length (now (name .entry)) + 189 ⌝ }
+    ensures { λ r. ⌜ Put (was out) 0 (raceText first second number strands english hebrew (was events) (was name)) r (is out) ⌝ }
+    ensures { λ r. ⌜ r ≤ length (was name) + 189 ⌝ }
 {
     let a = pair(out, number, first, second);
     let b = kinds(out, a, events, first, second);
@@ -129,7 +130,7 @@ pub fn answer(out: &mut [u8], answer: Answer, events: &[u8], name: &[u8]) -> usi
     requires { ⌜ 256 ≤ length (now out) ⌝ }
     requires { ⌜ length (now name) ≤ 64 ⌝ }
     requires { ⌜ PairWithin answer (length (now events)) ⌝ }
-    ensures { λ r. ⌜ Put (now (out .entry)) 0 (answerText answer (now (events .entry)) (now (name .entry))) r (now (out .exit)) ⌝ }
+    ensures { λ r. ⌜ Put (was out) 0 (answerText answer (was events) (was name)) r (is out) ⌝ }
     ensures { λ r. ⌜ r ≤ 256 ⌝ }
 {
     match answer {

@@ -83,9 +83,9 @@ fn judged(
 // requires: they are a line's at most.
 fn deliver(text: &[u8], out: &mut [u8]) -> Lined
     requires { ⌜ length (now text) ≤ 256 ⌝ }
-    ensures { λ r. ⌜ r ≡ linedOf (now (text .entry)) (length (now (out .entry))) ⌝ }
-    ensures { λ _. ⌜ now (out .exit) ≡ outOf (now (text .entry)) (now (out .entry)) ⌝ }
-    ensures { λ r. ⌜ LineFits r (now (out .exit)) ⌝ }
+    ensures { λ r. ⌜ r ≡ linedOf (was text) (length (was out)) ⌝ }
+    ensures { λ _. ⌜ is out ≡ outOf (was text) (was out) ⌝ }
+    ensures { λ r. ⌜ LineFits r (is out) ⌝ }
 {
     if out.len() < text.len() {
         return Lined::Short;
