@@ -22,7 +22,10 @@ same-length c = search needs
 
 returns : tie.Need-returns
 returns c =
-    (put-put (c .before .before .before .before .before .before .before .before .before .before .put .ensures) (put-put (c .before .before .before .before .before .before .counts .ensures .0) (c .before .before .ending .ensures .0)), omega arith)
+    let ended = c .before .before in
+    let counted = ended .before .before .before .before in
+    let word = counted .before .before .before .before in
+    (put-put (word .put .ensures) (put-put (counted .counts .ensures .0) (ended .ending .ensures .0)), omega arith)
 
 pub clean-spec : {M : Type 1} → statement M
 clean-spec =

@@ -30,7 +30,10 @@ same-length c = search needs
 returns : tie.Need-returns
 unfolding countsText
 returns c =
-    (put-put (c .before .before .before .before .before .before .before .before .before .before .before .before .field .ensures .0) (put-put (c .before .before .before .before .before .before .before .field2 .ensures .0) (c .before .before .field3 .ensures .0)), omega arith)
+    let hebrew = c .before .before in
+    let english = hebrew .before .before .before .before .before in
+    let strands = english .before .before .before .before .before in
+    (put-put (strands .field .ensures .0) (put-put (english .field2 .ensures .0) (hebrew .field3 .ensures .0)), omega arith)
 
 pub counts-spec : {M : Type 1} → statement M
 counts-spec =

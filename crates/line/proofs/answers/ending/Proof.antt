@@ -27,7 +27,10 @@ same-length c = search needs
 returns : tie.Need-returns
 unfolding nameText
 returns c =
-    (put-put (c .before .before .before .before .before .before .before .before .before .before .before .put .ensures) (put-put (c .before .before .before .before .before .before .before .put2 .ensures) (c .before .before .put3 .ensures)), omega arith)
+    let ended = c .before .before in
+    let named = ended .before .before .before .before .before in
+    let word = named .before .before .before .before in
+    (put-put (word .put .ensures) (put-put (named .put2 .ensures) (ended .put3 .ensures)), omega arith)
 
 pub ending-spec : {M : Type 1} → statement M
 ending-spec =

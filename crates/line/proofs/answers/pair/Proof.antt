@@ -30,7 +30,10 @@ same-length c = search needs
 returns : tie.Need-returns
 unfolding pairText
 returns c =
-    (put-put (c .before .before .before .before .before .before .before .before .before .before .before .before .field .ensures .0) (put-put (c .before .before .before .before .before .before .before .field2 .ensures .0) (c .before .before .field3 .ensures .0)), omega arith)
+    let second = c .before .before in
+    let first = second .before .before .before .before .before in
+    let number = first .before .before .before .before .before in
+    (put-put (number .field .ensures .0) (put-put (first .field2 .ensures .0) (second .field3 .ensures .0)), omega arith)
 
 pub pair-spec : {M : Type 1} → statement M
 pair-spec =

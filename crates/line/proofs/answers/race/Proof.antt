@@ -22,7 +22,11 @@ same-length c = search needs
 
 returns : tie.Need-returns
 returns c =
-    (put-put (c .before .before .before .before .before .before .before .before .before .before .before .before .before .before .pair .ensures .0) (put-put (c .before .before .before .before .before .before .before .before .before .before .kinds .ensures .0) (put-put (c .before .before .before .before .before .before .counts .ensures .0) (c .before .before .ending .ensures .0))), omega arith)
+    let ended = c .before .before in
+    let counted = ended .before .before .before .before in
+    let kinds = counted .before .before .before .before in
+    let pair = kinds .before .before .before .before in
+    (put-put (pair .pair .ensures .0) (put-put (kinds .kinds .ensures .0) (put-put (counted .counts .ensures .0) (ended .ending .ensures .0))), omega arith)
 
 pub race-spec : {M : Type 1} → statement M
 race-spec =

@@ -33,7 +33,10 @@ same-length c = search needs
 returns : tie.Need-returns
 unfolding refusalText
 returns c =
-    (put-put (c .before .before .before .before .before .before .before .before .before .before .before .before .field .ensures .0) (put-put (c .before .before .before .before .before .before .before .field2 .ensures .0) (c .before .before .put .ensures)), omega arith)
+    let ended = c .before .before in
+    let event = ended .before .before .before .before .before in
+    let number = event .before .before .before .before .before in
+    (put-put (number .field .ensures .0) (put-put (event .field2 .ensures .0) (ended .put .ensures)), omega arith)
 
 pub refusal-spec : {M : Type 1} → statement M
 refusal-spec =
