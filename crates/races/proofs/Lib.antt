@@ -1,4 +1,3 @@
-pub mod Cases
 pub mod Search
 pub mod Standing
 pub mod Found
@@ -11,3 +10,4 @@ pub mod Shown
 pub mod Emptied
 pub mod Mark
 pub mod Named
+pub mod Cases
