@@ -17,10 +17,10 @@ use Rattle.races.specs.Named.{verdict, stopAt}
 use Rattle.races.proofs.Shown.{shown-start}
 use Rattle.races.proofs.OneRace.{none-second, clean-all}
 use Rattle.judging.specs.declared.Answer.the-variants.{Clean, Race}
-use Rattle.judging.specs.declared.Turn.the-variants.{Raced}
+use Rattle.taking.specs.declared.Turn.the-variants.{Raced}
 use Rattle.judging.specs.Answers.{answerWith, judgedOf}
 use Rattle.judging.specs.Buffers.{Shows}
-use Rattle.judging.specs.Turns.{Midway, Unraced, Turned}
+use Rattle.taking.specs.Turns.{Midway, Unraced, Turned}
 
 -- before any event
 pub starts : (part : List ℕ) (records : ℕ) (M₀ M : Memory) (P₀ P : List ℕ) (T : OpenTasks) (now : Now) → Reached (moves (eventAt part)) 0 M₀ M T now

@@ -6,29 +6,23 @@ ghost use lib.ListN.{length};
 ghost use Rattle.jobfile.specs.Lent.{was, is};
 ghost use Rattle.judging.specs.Answers.{judgeOf, judgeFault, judgedOf};
 ghost use Rattle.judging.specs.Buffers.{Leaves, Shows};
-ghost use Rattle.judging.specs.Turns.{Run, Turnable, Taken};
-ghost use Rattle.judging.specs.Asking.{heldOr, heldAbove, Askable};
+ghost use Rattle.taking.specs.Turns.{Run};
 ghost use Rattle.jobfile.specs.File.{checkOf};
 ghost use Rattle.jobfile.specs.Trace.{eventAt};
 ghost use Rattle.jobfile.specs.declared.Checked.the-variants.{Accepted};
-ghost use Rattle.strands.specs.Memory.{memory, tasks};
 ghost use Rattle.races.specs.Named.{stopAt};
-ghost use Prim.Native.Nat.{_<_, _≤_};
-use jobfile::Access;
+ghost use Prim.Native.Nat.{_≤_};
 use jobfile::Checked;
 use jobfile::Job;
 use jobfile::Refusal;
-use limits::HEBREW_LABELS;
-use limits::ITS_STRAND;
 use limits::LABELS;
 use limits::LINKS;
 use limits::NO_STRAND;
 use limits::OPEN_TASKS;
 use limits::PLACES;
-use limits::STANDING_READS;
 use limits::STRANDS;
-use races::Met;
-use strands::Now;
+use taking::Turn;
+use taking::take;
 
 // Clean or race, with the strands begun and both label counts; or a refusal.
 pub enum Answer {
@@ -46,12 +40,6 @@ pub enum Answer {
         hebrew: usize,
     },
     Refused(Refusal),
-}
-
-// What one event leads to: the next state, or the race that it is the second access of.
-pub enum Turn {
-    Go(Now),
-    Raced { first: usize, record: usize },
 }
 
 // Judges the first k events of a file, or fewer if a race is met.
@@ -170,66 +158,4 @@ fn run(
         english: state.english,
         hebrew: state.hebrew,
     }
-}
-
-// Event i: an access finds the first of a race at its record's places or goes into one of them; any other event moves, and may begin a
-// strand. An access does not move.
-fn take(
-    part: &[u8],
-    i: usize,
-    state: Now,
-    lasts: &mut [usize; OPEN_TASKS],
-    joins: &mut [usize; OPEN_TASKS],
-    labels: &mut [u64],
-    links: &mut [u16],
-    places: &mut [u32],
-) -> Turn
-    requires { ⌜ Turnable (now part) i (memory labels links) (tasks lasts joins) (now places) state ⌝ }
-    ensures { λ r. ⌜ Taken (was part) i state lasts joins labels links places r ⌝ }
-{
-    let e = jobfile::event_at(part, i);
-    match jobfile::access_of(e) {
-        Access::To { kind, record } => {
-            let r = record as usize;
-            let strand = state.strands - 1;
-            let wrote = asks(places, labels, r, strand);
-            let stood = asks(places, labels, STANDING_READS + r, strand);
-            match races::access(places, kind, r, i, strand, wrote, stood) {
-                Met::First(first) => Turn::Raced { first, record: r },
-                Met::Nothing => Turn::Go(state),
-            }
-        }
-        Access::None => {
-            let m = jobfile::move_of(e);
-            Turn::Go(strands::advance(m, state, lasts, joins, labels, links))
-        }
-    }
-}
-
-// Whether the place whose event is at `at` holds an access that is parallel to `strand`, the current one: its Hebrew label is above.
-fn asks(places: &[u32], labels: &[u64], at: usize, strand: usize) -> bool
-    requires { ⌜ Askable (now places) (now labels) at strand ⌝ }
-    ensures { λ r. ⌜ r ≡ heldAbove (was labels) (was places) at strand ⌝ }
-{
-    let other = held_or(wide(places[at + ITS_STRAND]), strand);
-    labels[HEBREW_LABELS + strand] < labels[HEBREW_LABELS + other]
-}
-
-// The strand that a place holds, or `strand` where that is none. The machine picks one without a branch: which places are empty
-// nobody foresees.
-fn held_or(held: usize, strand: usize) -> usize
-    requires { ⌜ strand < 4096 ⌝ }
-    ensures { λ r. ⌜ r ≡ heldOr held strand ⌝ }
-    ensures { λ r. ⌜ r < 4096 ⌝ }
-{
-    if held < STRANDS {
-        return held;
-    }
-    strand
-}
-
-fn wide(x: u32) -> usize
-    ensures { λ r. ⌜ r ≡ x ⌝ }
-{
-    x as usize
 }

@@ -1,5 +1,4 @@
 // The line of each answer, from the start of a buffer. Each function answers where the next bytes go.
-ghost use mathlib.Core.Path.{_≡_};
 ghost use Prim.Native.Nat.{_+_, _*_, _≤_};
 ghost use lib.ListN.{length};
 ghost use Rattle.jobfile.specs.Lent.{was, is};

@@ -1,49 +1,20 @@
--- Small jobs by computation: the starred ones, one list, with the strands begun; ones that a slip in a rule would answer otherwise; each
--- record's own pair. Assumes nothing.
+-- Small jobs by computation: ones that a slip in a rule would answer otherwise, and each record's own pair. The starred ones stand in judging.
+-- Assumes nothing.
 use mathlib.Core.Path.{_≡_, refl}
 use mathlib.Core.List.{List, [], _∷_, map}
-use Prim.Native.Nat.{ℕ}
 use lib.ListN.{length}
-use Rattle.jobfile.specs.Trace.{moves, tasksAt, begunAt}
+use Rattle.jobfile.specs.Trace.{tasksAt}
 use Rattle.jobfile.specs.Events.{accessOf}
-use Rattle.jobfile.specs.Samples.{listed, starred as cases}
+use Rattle.jobfile.specs.Samples.{listed}
 use Rattle.jobfile.specs.declared.event.Event.{Event}
-use Rattle.jobfile.specs.declared.event.Event.the-variants.{Spawn as S, End as E, Sync as J, Read as R, Write as W}
+use Rattle.jobfile.specs.declared.event.Event.the-variants.{Spawn as S, End as E, Read as R, Write as W}
 use Rattle.relation.specs.Walk.{opened, moveAt, walkFor, walk}
 use Rattle.races.specs.Search.{any, least}
 use Rattle.races.specs.Trace.{recordOf}
 use Rattle.races.specs.Places.{heldOf, firstOf, found}
-use Rattle.races.specs.Records.{pair, Verdict, clean, race, races, raced, pairOf, racedAny, verdictAt, verdictIn, stopIn}
+use Rattle.races.specs.Records.{pair, Verdict, clean, race, races, raced, pairOf, racedAny, verdictAt, verdictIn}
 use Rattle.races.specs.Mark.{actOf, rules, eventTrace}
-use Rattle.races.specs.Named.{verdict, stopAt}
-
-pub record Outcome : Type 0 where
-  pub verdict-is : Verdict
-  pub strands : ℕ
-
-abbrev pub outcome : List Event → Outcome
-outcome events = record {
-  verdict-is = verdict (listed events) (length events);
-  strands = begunAt (moves (listed events)) (stopAt (listed events) (length events));
-}
-
-abbrev pub outcomes : List Outcome
-outcomes =
-    record { verdict-is = clean; strands = 1 }
-    ∷ record { verdict-is = clean; strands = 1 }
-    ∷ record { verdict-is = race 1 3 0; strands = 3 }
-    ∷ record { verdict-is = clean; strands = 4 }
-    ∷ record { verdict-is = race 1 4 0; strands = 3 }
-    ∷ record { verdict-is = race 2 4 0; strands = 3 }
-    ∷ record { verdict-is = race 1 4 0; strands = 4 }
-    ∷ record { verdict-is = clean; strands = 6 }
-    ∷ record { verdict-is = race 2 6 0; strands = 6 }
-    ∷ record { verdict-is = race 1 5 0; strands = 4 }
-    ∷ []
-
-pub starred-cases : map outcome cases ≡ outcomes
-unfolding tasksAt begunAt opened moveAt walkFor walk any least races raced heldOf firstOf racedAny verdictIn stopIn
-starred-cases = refl
+use Rattle.races.specs.Named.{verdict}
 
 -- Small jobs that a slip in a rule would answer otherwise, judged by trying every pair and by asking the two places.
 abbrev byPairs : List Event → Verdict
@@ -63,11 +34,13 @@ near =
     ∷ (S ∷ R 0 ∷ E ∷ R 0 ∷ W 0 ∷ [])
     ∷ (S ∷ W 0 ∷ E ∷ R 0 ∷ [])
     ∷ (R 0 ∷ S ∷ R 0 ∷ E ∷ W 0 ∷ [])
+    ∷ (S ∷ R 0 ∷ W 0 ∷ E ∷ W 0 ∷ [])
     ∷ []
 
--- the last write; the earliest second; two records; two reads; the newest read; a read as the second; a read that takes the place
+-- the last write; the earliest second; two records; two reads; the newest read; a read as the second; a read that takes the place; a write
+-- behind the standing read
 abbrev near-verdicts : List Verdict
-near-verdicts = race 2 4 0 ∷ race 1 3 0 ∷ clean ∷ clean ∷ race 1 4 0 ∷ race 1 3 0 ∷ race 2 4 0 ∷ []
+near-verdicts = race 2 4 0 ∷ race 1 3 0 ∷ clean ∷ clean ∷ race 1 4 0 ∷ race 1 3 0 ∷ race 2 4 0 ∷ race 2 4 0 ∷ []
 
 pub near-pairs : map byPairs near ≡ near-verdicts
 unfolding tasksAt opened moveAt walkFor walk any least races raced heldOf firstOf racedAny verdictIn

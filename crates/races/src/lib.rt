@@ -110,7 +110,8 @@ fn pick(first: bool, a: u32, b: u32) -> u32
     b
 }
 
-fn wide(x: u32) -> usize
+// An entry of the places as a number.
+pub fn wide(x: u32) -> usize
     ensures { λ r. ⌜ r ≡ x ⌝ }
 {
     x as usize

@@ -2,10 +2,11 @@
 use mathlib.Core.Path.{_≡_, refl}
 use mathlib.Core.List.{List, [], _∷_, map}
 use Prim.Native.Nat.{ℕ}
-use lib.ListN.{length, getD}
+use lib.ListN.{length}
 use Rattle.jobfile.specs.Refusals.{refusalOf}
 use Rattle.jobfile.specs.declared.event.Event.{Event}
-use Rattle.jobfile.specs.declared.event.Event.the-variants.{Spawn, End, Sync, Read, Write}
+use Rattle.jobfile.specs.declared.event.Event.the-variants.{Spawn as S, End as E, Sync as J, Read as R, Write as W}
+use Rattle.jobfile.specs.Samples.{listed}
 use Rattle.relation.specs.Question.{compareOf, askedOf}
 use Rattle.relation.specs.Walk.{opened, moveAt, walkFor, walk}
 use Rattle.relation.specs.declared.Related.{Related}
@@ -21,44 +22,28 @@ record Case : Type 0 where
 abbrev case : List Event → ℕ → ℕ → Related → Case
 case events i j answer = record { events = events; i = i; j = j; answer = answer }
 
--- the letters of the small jobs
-abbrev S : Event
-S = Spawn
-
-abbrev E : Event
-E = End
-
-abbrev J : Event
-J = Sync
-
-abbrev R0 : Event
-R0 = Read 0
-
-abbrev W0 : Event
-W0 = Write 0
-
 abbrev cases : List Case
 cases =
-    case (S ∷ W0 ∷ E ∷ W0 ∷ []) 1 3 Parallel
-    ∷ case (S ∷ W0 ∷ E ∷ W0 ∷ []) 3 1 Parallel
-    ∷ case (S ∷ W0 ∷ E ∷ W0 ∷ []) 1 1 Same
-    ∷ case (S ∷ W0 ∷ E ∷ J ∷ W0 ∷ []) 1 4 Before
-    ∷ case (S ∷ W0 ∷ E ∷ J ∷ W0 ∷ []) 4 1 After
-    ∷ case (S ∷ W0 ∷ E ∷ S ∷ W0 ∷ E ∷ []) 1 4 Parallel
-    ∷ case (S ∷ W0 ∷ E ∷ J ∷ S ∷ W0 ∷ E ∷ []) 1 5 Before
-    ∷ case (S ∷ S ∷ W0 ∷ E ∷ J ∷ E ∷ W0 ∷ []) 2 6 Parallel
-    ∷ case (S ∷ S ∷ W0 ∷ E ∷ E ∷ J ∷ W0 ∷ []) 2 6 Before
-    ∷ case (S ∷ W0 ∷ E ∷ S ∷ J ∷ W0 ∷ E ∷ []) 1 5 Parallel
-    ∷ case (W0 ∷ S ∷ R0 ∷ E ∷ J ∷ R0 ∷ []) 0 2 Before
-    ∷ case (W0 ∷ S ∷ R0 ∷ E ∷ J ∷ R0 ∷ []) 5 2 After
-    ∷ case (S ∷ W0 ∷ E ∷ []) 0 0 (Refused (refusalOf 18 0))
-    ∷ case (S ∷ W0 ∷ E ∷ []) 1 2 (Refused (refusalOf 18 0))
-    ∷ case (S ∷ W0 ∷ E ∷ []) 0 3 (Refused (refusalOf 15 0))
-    ∷ case (S ∷ W0 ∷ E ∷ []) 3 1 (Refused (refusalOf 15 0))
+    case (S ∷ W 0 ∷ E ∷ W 0 ∷ []) 1 3 Parallel
+    ∷ case (S ∷ W 0 ∷ E ∷ W 0 ∷ []) 3 1 Parallel
+    ∷ case (S ∷ W 0 ∷ E ∷ W 0 ∷ []) 1 1 Same
+    ∷ case (S ∷ W 0 ∷ E ∷ J ∷ W 0 ∷ []) 1 4 Before
+    ∷ case (S ∷ W 0 ∷ E ∷ J ∷ W 0 ∷ []) 4 1 After
+    ∷ case (S ∷ W 0 ∷ E ∷ S ∷ W 0 ∷ E ∷ []) 1 4 Parallel
+    ∷ case (S ∷ W 0 ∷ E ∷ J ∷ S ∷ W 0 ∷ E ∷ []) 1 5 Before
+    ∷ case (S ∷ S ∷ W 0 ∷ E ∷ J ∷ E ∷ W 0 ∷ []) 2 6 Parallel
+    ∷ case (S ∷ S ∷ W 0 ∷ E ∷ E ∷ J ∷ W 0 ∷ []) 2 6 Before
+    ∷ case (S ∷ W 0 ∷ E ∷ S ∷ J ∷ W 0 ∷ E ∷ []) 1 5 Parallel
+    ∷ case (W 0 ∷ S ∷ R 0 ∷ E ∷ J ∷ R 0 ∷ []) 0 2 Before
+    ∷ case (W 0 ∷ S ∷ R 0 ∷ E ∷ J ∷ R 0 ∷ []) 5 2 After
+    ∷ case (S ∷ W 0 ∷ E ∷ []) 0 0 (Refused (refusalOf 18 0))
+    ∷ case (S ∷ W 0 ∷ E ∷ []) 1 2 (Refused (refusalOf 18 0))
+    ∷ case (S ∷ W 0 ∷ E ∷ []) 0 3 (Refused (refusalOf 15 0))
+    ∷ case (S ∷ W 0 ∷ E ∷ []) 3 1 (Refused (refusalOf 15 0))
     ∷ []
 
 abbrev answered : Case → Related
-answered c = askedOf (λ n. getD (c .events) n Sync) (length (c .events)) (c .i) (c .j)
+answered c = askedOf (listed (c .events)) (length (c .events)) (c .i) (c .j)
 
 pub cases-hold : map answered cases ≡ map (λ c. c .answer) cases
 unfolding compareOf askedOf opened moveAt walkFor walk

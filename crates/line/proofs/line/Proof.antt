@@ -1,6 +1,6 @@
 -- `line` meets its contract: the text is the line, and it is delivered if it fits. Assumes nothing.
 use native.Mathlib.Omega.{arith}
-use mathlib.Core.Path.{_≡_, _∙_}
+use mathlib.Core.Path.{_≡_}
 use lib.ListN.{length, take}
 use Rattle.line.specs.Line.{lineOf}
 use Rattle.bytes_at.proofs.Puts.{put-counted}

@@ -1,6 +1,6 @@
 -- `line::text_of` meets its contract: a refused input has the refusal's text, and an accepted one that of its judging. Assumes nothing.
 use native.Mathlib.Omega.{arith}
-use mathlib.Core.Path.{_≡_, refl, sym, _∙_}
+use mathlib.Core.Path.{sym, _∙_}
 use Rattle.line.proofs.Parts.{refused-line, leaves-none}
 use borrow.Author.Needs.{needs}
 use Rattle.line.proofs.text_of.Statement.{statement}

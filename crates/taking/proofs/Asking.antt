@@ -28,8 +28,8 @@ use Rattle.races.specs.Mark.{rank, actOf, rules, layout, two, eventTrace}
 use Rattle.races.proofs.Shown.{told-by}
 use Rattle.races.proofs.Mark.{places-laid}
 use Rattle.races.proofs.Named.{lawful, fit}
-use Rattle.judging.specs.Asking.{heldOr, heldAbove, Askable}
-use Rattle.judging.specs.Turns.{Run, Midway}
+use Rattle.taking.specs.Asking.{heldOr, heldAbove, Askable}
+use Rattle.taking.specs.Turns.{Run, Midway}
 
 pub run-rooted : {part : List ℕ} {records k : ℕ} → Run part records k → (n : ℕ) → n ≤ k → Rooted (moves (eventAt part)) n
 run-rooted R n h m l = R .accepted .rooted m (omega (arith, R .within))

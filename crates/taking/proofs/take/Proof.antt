@@ -2,10 +2,10 @@
 -- its strand has begun. Assumes nothing.
 use mathlib.Core.Path.{sym, _∙_}
 use native.Mathlib.Omega.{arith}
-use Rattle.judging.proofs.Taking.{some-strands, record-below, may-ask, accessible, turns-race, turns-accessed, ready, turns-moved}
+use Rattle.taking.proofs.Turned.{some-strands, record-below, may-ask, accessible, turns-race, turns-accessed, ready, turns-moved}
 use borrow.Author.Needs.{needs}
-use Rattle.judging.proofs.take.Statement.{statement}
-use Rattle.judging.proofs.take.Tie as tie
+use Rattle.taking.proofs.take.Statement.{statement}
+use Rattle.taking.proofs.take.Tie as tie
 
 event-at-requires : tie.Need-event-at-requires
 event-at-requires c κs = search needs

@@ -29,10 +29,10 @@ use Rattle.races.proofs.Found.{found-none, found-off}
 use Rattle.races.proofs.Shown.{first-met, nothing-met, shown-other, shown-frozen, shown-racing}
 use Rattle.races.proofs.OneRace.{all-unraced, still-none, stops-here}
 use Rattle.races.proofs.Named.{lawful, fit}
-use Rattle.judging.specs.declared.Turn.the-variants.{Go, Raced}
-use Rattle.judging.specs.Asking.{heldAbove, Askable}
-use Rattle.judging.specs.Turns.{Run, Midway, Unraced, Turnable, Turns}
-use Rattle.judging.proofs.Asking.{run-rooted, on-record, askable, arriving}
+use Rattle.taking.specs.declared.Turn.the-variants.{Go, Raced}
+use Rattle.taking.specs.Asking.{heldAbove, Askable}
+use Rattle.taking.specs.Turns.{Run, Midway, Unraced, Turnable, Turns}
+use Rattle.taking.proofs.Asking.{run-rooted, on-record, askable, arriving}
 
 -- event i may be taken
 taken : {part : List ℕ} {records k i : ℕ} → Run part records k → i < k → Takes (moves (eventAt part)) i (moveOf (eventAt part i))

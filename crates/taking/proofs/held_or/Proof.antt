@@ -1,9 +1,9 @@
 -- `held_or` meets its contract: the test picks the case of the definition. Assumes nothing.
 use borrow.Author.Needs.{needs}
 use borrow.Author.Tests.{lt-ltb, le-ltb}
-use Rattle.judging.specs.Asking.{heldOr}
-use Rattle.judging.proofs.held_or.Statement.{statement}
-use Rattle.judging.proofs.held_or.Tie as tie
+use Rattle.taking.specs.Asking.{heldOr}
+use Rattle.taking.proofs.held_or.Statement.{statement}
+use Rattle.taking.proofs.held_or.Tie as tie
 
 returns : tie.Need-returns
 unfolding heldOr

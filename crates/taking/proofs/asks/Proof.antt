@@ -1,8 +1,8 @@
 -- `asks` meets its contract: whichever strand the place is asked with has a label. Assumes nothing.
-use Rattle.judging.specs.Asking.{heldAbove}
+use Rattle.taking.specs.Asking.{heldAbove}
 use borrow.Author.Needs.{needs}
-use Rattle.judging.proofs.asks.Statement.{statement}
-use Rattle.judging.proofs.asks.Tie as tie
+use Rattle.taking.proofs.asks.Statement.{statement}
+use Rattle.taking.proofs.asks.Tie as tie
 
 add-wide : tie.Need-add-wide
 add-wide c = search needs
