@@ -1,13 +1,13 @@
 // The places of the records, the last write and the standing read of each, in a lent buffer: what an access finds there, once an engine
 // has said which of the two are parallel to it. No label and no set is known here. The theory of races stands in specs/ and proofs/.
 ghost use mathlib.Core.Path.{_≡_};
-ghost use mathlib.Core.Bool.{cond};
+ghost use mathlib.Core.Bool.{false, cond};
 ghost use Prim.Native.Nat.{_+_, _<_, _≤_};
-ghost use lib.ListN.{length};
+ghost use lib.ListN.{length, getD};
 ghost use Rattle.jobfile.specs.Lent.{was, is};
 ghost use Rattle.races.specs.Entries.{put, filled, Empty};
 ghost use Rattle.races.specs.Shown.{Accessible, Accessed};
-ghost use Rattle.races.specs.Mark.{rank, rules, layout, two};
+ghost use Rattle.races.specs.Mark.{rank, rules, layout, two, NamesLastWrite};
 use jobfile::Kind;
 use limits::ITS_STRAND;
 use limits::NO_PLACE;
@@ -45,31 +45,34 @@ fn empty(places: &mut [u32], from: usize, records: usize)
     }
 }
 
-// Event `at`, in `strand`, accesses record r. `wrote` and `stood`: the record's last write, its standing read, is there and parallel to the
-// event.
-// A read races with the last write. Otherwise it stands if no read does, or if the standing one is before it; and else that one is put
-// again, since a processor cannot foresee which. A write races with either; where it does with neither, it is the last one. Most do: so
-// one test for both.
-// requires: the places have the record's entries and show the events before this one, the record has not raced, and the engine has told
-// the truth about the two.
+// The event of record r's last write: an access of the record races with it if it is parallel to that, whatever the standing read is.
+// requires: the record has its place.
+pub fn last_write(places: &[u32], r: usize) -> usize
+    requires { ⌜ r < length (now places) ⌝ }
+    ensures { λ f. ⌜ f ≡ getD (was places) r 0 ⌝ }
+    ensures { λ f. ⌜ NamesLastWrite (was places) r f ⌝ }
+{
+    wide(places[r])
+}
+
+// Event `at`, in `strand`, accesses record r, whose last write is not parallel to it. `stood`: the standing read is there and parallel to it.
+// A read stands if no read does, or if the standing one is before it; and else that one is put again, since a processor cannot foresee
+// which. A write races with the standing read; where it does not, it is the last write.
+// requires: the places show the events before this one, the record has not raced, and the engine has told the truth about both.
 pub fn access(
     places: &mut [u32],
     kind: Kind,
     r: usize,
     at: usize,
     strand: usize,
-    wrote: bool,
     stood: bool,
 ) -> Met
-    requires { ⌜ Accessible rules layout (two wrote stood) (now places) r (rank kind) at strand ⌝ }
+    requires { ⌜ Accessible rules layout (two false stood) (now places) r (rank kind) at strand ⌝ }
     requires { ⌜ 12288 + r < length (now places) ⌝ }
-    ensures { λ m. ⌜ Accessed rules layout (two wrote stood) (was places) r (rank kind) at strand (is places) m ⌝ }
+    ensures { λ m. ⌜ Accessed rules layout (two false stood) (was places) r (rank kind) at strand (is places) m ⌝ }
 {
     match kind {
         Kind::Read => {
-            if wrote {
-                return Met::First(wide(places[r]));
-            }
             let event = pick(stood, places[STANDING_READS + r], at as u32);
             let held = pick(
                 stood,
@@ -80,10 +83,7 @@ pub fn access(
             Met::Nothing
         }
         Kind::Write => {
-            if wrote | stood {
-                if wrote {
-                    return Met::First(wide(places[r]));
-                }
+            if stood {
                 return Met::First(wide(places[STANDING_READS + r]));
             }
             put(places, r, at as u32, strand as u32);

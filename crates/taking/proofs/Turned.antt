@@ -2,7 +2,7 @@
 -- event that is no access is behind once its strand has begun. Assumes nothing.
 use mathlib.Core.Path.{_≡_, refl, ap, _∙_}
 use mathlib.Core.List.{List}
-use mathlib.Core.Bool.{Bool, false}
+use mathlib.Core.Bool.{Bool, true, false}
 use mathlib.Core.Option.{some}
 use Prim.Native.Nat.{ℕ, suc, _+_, _-_, _≤_, _<_}
 use native.Mathlib.Omega.{arith}
@@ -23,7 +23,7 @@ use Rattle.races.specs.Trace.{onRecord, recordOf}
 use Rattle.races.specs.Places.{firstOf, found}
 use Rattle.races.specs.Records.{secondOf}
 use Rattle.races.specs.Shown.{Shown, Arriving, Accessible, Accessed}
-use Rattle.races.specs.Mark.{rank, actOf, rules, layout, two, eventTrace}
+use Rattle.races.specs.Mark.{rank, actOf, rules, layout, two, eventTrace, NamesLastWrite}
 use Rattle.races.specs.declared.Met.the-variants.{First, Nothing}
 use Rattle.races.proofs.Found.{found-none, found-off}
 use Rattle.races.proofs.Shown.{first-met, nothing-met, shown-other, shown-frozen, shown-racing}
@@ -134,6 +134,13 @@ module _ {part : List ℕ} {i : ℕ} {M : Memory} {T : OpenTasks} {P : List ℕ}
             midway = access-midway R h (U .midway) kind r to-record P′ (p .1);
             none-raced = still-none rules tr (lawful (eventAt part)) (fit (eventAt part)) i (U .none-raced) f;
           }
+
+    -- the last write is parallel: it is named, whatever stands
+    pub turns-last : true ≡ heldAbove (M .labels) P r (now .strands - 1) → (first : ℕ) → NamesLastWrite P r first
+        → Turns part i M T P now M T P (Raced first r)
+    turns-last w first named =
+        let stood = heldAbove (M .labels) P (8192 + r) (now .strands - 1) in
+        turns-race true stood w refl P first (named stood (rank kind) i (now .strands - 1))
 
   -- an event that is no access, and its move
   module _ (to : accessOf e ≡ None) (m : Move) (is : m ≡ moveOf e) where

@@ -42,9 +42,12 @@ pub fn take(
         Access::To { kind, record } => {
             let r = record as usize;
             let strand = state.strands - 1;
-            let wrote = asks(places, labels, r, strand);
+            if asks(places, labels, r, strand) {
+                let first = races::last_write(places, r);
+                return Turn::Raced { first, record: r };
+            }
             let stood = asks(places, labels, STANDING_READS + r, strand);
-            match races::access(places, kind, r, i, strand, wrote, stood) {
+            match races::access(places, kind, r, i, strand, stood) {
                 Met::First(first) => Turn::Raced { first, record: r },
                 Met::Nothing => Turn::Go(state),
             }

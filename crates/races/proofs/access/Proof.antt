@@ -1,30 +1,12 @@
--- `access` meets its contract: the kind of the access and the engine's two answers say which way it goes. Assumes nothing.
-use mathlib.Core.Path.{_≡_, refl}
-use mathlib.Core.Bool.{Bool, true, false, _||_}
-use Rattle.jobfile.proofs.Tests.{neither}
-use Rattle.races.proofs.Mark.{last-write-named, standing-read-named, write-put, read-put}
+-- `access` meets its contract: the kind of the access and the engine's answer say which way it goes. Assumes nothing.
+use mathlib.Core.Path.{refl}
+use Rattle.races.proofs.Mark.{standing-read-named, write-put, read-put}
 use borrow.Author.Needs.{needs}
 use Rattle.races.proofs.access.Statement.{statement}
 use Rattle.races.proofs.access.Tie as tie
 
--- the second answer, if one of them is yes and the first is not
-second : (a b : Bool) → (a || b) ≡ true → a ≡ false → b ≡ true
-second a b t f = rw f at t
-
 enum-told : tie.Need-enum-told
 enum-told c = search needs
-
-mul-wide : tie.Need-mul-wide
-mul-wide c = search needs
-
-slice-read-wide : tie.Need-slice-read-wide
-slice-read-wide c = search needs
-
-wide-requires : tie.Need-wide-requires
-wide-requires c κs = search needs
-
-returns : tie.Need-returns
-returns c = rw (c .wide .ensures) (last-write-named _ (c .before .before .if1 .taken))
 
 add-pick : tie.Need-add-pick
 add-pick c = search needs
@@ -68,36 +50,22 @@ put-requires c κs = search needs
 enum-told-2 : tie.Need-enum-told-2
 enum-told-2 c = search needs
 
-mul-wide-2 : tie.Need-mul-wide-2
-mul-wide-2 c = search needs
-
-slice-read-wide-2 : tie.Need-slice-read-wide-2
-slice-read-wide-2 c = search needs
-
-wide-requires-2 : tie.Need-wide-requires-2
-wide-requires-2 c κs = search needs
-
-returns-2 : tie.Need-returns-2
-returns-2 c = rw (c .wide2 .ensures) (last-write-named _ (c .before .before .if3 .taken))
-
 add-wide : tie.Need-add-wide
 add-wide c = search needs
 
-mul-wide-3 : tie.Need-mul-wide-3
-mul-wide-3 c = search needs
+mul-wide : tie.Need-mul-wide
+mul-wide c = search needs
 
-slice-read-wide-3 : tie.Need-slice-read-wide-3
-slice-read-wide-3 c = search needs
+slice-read-wide : tie.Need-slice-read-wide
+slice-read-wide c = search needs
 
-wide-requires-3 : tie.Need-wide-requires-3
-wide-requires-3 c κs = search needs
+wide-requires : tie.Need-wide-requires
+wide-requires c κs = search needs
 
-returns-3 : tie.Need-returns-3
-returns-3 c =
+returns : tie.Need-returns
+returns c =
     let past = c .before .before in
-    let either = past .before in
-    rw (c .wide3 .ensures, either .before .enum-told2 .given .1)
-    (standing-read-named (past .if3 .left) (second _ _ (either .if2 .taken) (past .if3 .left)))
+    rw (c .wide .ensures, past .before .enum-told2 .given .1) (standing-read-named refl (past .if1 .taken))
 
 cast-put : tie.Need-cast-put
 cast-put c = search needs
@@ -111,34 +79,27 @@ put-requires-2 c κs = search needs
 same-length : tie.Need-same-length
 same-length c = search needs
 
-returns-4 : tie.Need-returns-4
-returns-4 c =
+returns-2 : tie.Need-returns-2
+returns-2 c =
     let stored = c .before .before in
     let strand = stored .before .before in
     let event = strand .before .before in
-    let past = event .before .before in
-    rw (stored .put .ensures, strand .pick2 .ensures, event .pick .ensures, past .before .enum-told .given .1)
-    (read-put (past .if1 .left) _ refl)
+    rw (stored .put .ensures, strand .pick2 .ensures, event .pick .ensures, event .before .before .enum-told .given .1) (read-put refl _ refl)
 
 same-length-2 : tie.Need-same-length-2
 same-length-2 c = search needs
 
-returns-5 : tie.Need-returns-5
-returns-5 c =
+returns-3 : tie.Need-returns-3
+returns-3 c =
     let stored = c .before .before in
     let past = stored .before .before in
-    let none = neither _ _ (past .if2 .left) in
-    rw (stored .put2 .ensures, past .before .enum-told2 .given .1) (write-put (none .0) (none .1))
+    rw (stored .put2 .ensures, past .before .enum-told2 .given .1) (write-put refl (past .if1 .left))
 
 pub access-spec : {M : Type 1} → statement M
 access-spec =
     tie.close
     (tie.spec
     enum-told
-    mul-wide
-    slice-read-wide
-    wide-requires
-    returns
     add-pick
     mul-pick
     slice-read-pick
@@ -153,19 +114,15 @@ access-spec =
     add-put
     put-requires
     enum-told-2
-    mul-wide-2
-    slice-read-wide-2
-    wide-requires-2
-    returns-2
     add-wide
-    mul-wide-3
-    slice-read-wide-3
-    wide-requires-3
-    returns-3
+    mul-wide
+    slice-read-wide
+    wide-requires
+    returns
     cast-put
     cast-put-2
     put-requires-2
     same-length
-    returns-4
+    returns-2
     same-length-2
-    returns-5)
+    returns-3)

@@ -2,7 +2,7 @@
 -- its strand has begun. Assumes nothing.
 use mathlib.Core.Path.{sym, _∙_}
 use native.Mathlib.Omega.{arith}
-use Rattle.taking.proofs.Turned.{some-strands, record-below, may-ask, accessible, turns-race, turns-accessed, ready, turns-moved}
+use Rattle.taking.proofs.Turned.{some-strands, record-below, may-ask, accessible, turns-last, turns-race, turns-accessed, ready, turns-moved}
 use borrow.Author.Needs.{needs}
 use Rattle.taking.proofs.take.Statement.{statement}
 use Rattle.taking.proofs.take.Tie as tie
@@ -32,12 +32,35 @@ asks-requires c κs =
     let to = sym (arm .before .before .access-of .ensures) ∙ arm .kind .given .1 in
     may-ask asked _ (read .event-at .ensures) _ _ to _ (omega (arith, record-below asked _ (read .event-at .ensures) _ _ to))
 
+last-write-requires : tie.Need-last-write-requires
+last-write-requires c κs =
+    let arm = c .before .before .before .before .before .before .before in
+    let read = arm .before .before .before in
+    let asked = read .before .before .before .before .before .pre in
+    let to = sym (arm .before .before .access-of .ensures) ∙ arm .kind .given .1 in
+    omega (arith, record-below asked _ (read .event-at .ensures) _ _ to, asked .unraced .midway .places-room)
+
+same-length : tie.Need-same-length
+same-length c = search needs
+
+same-length-2 : tie.Need-same-length-2
+same-length-2 c = search needs
+
+returns : tie.Need-returns
+returns c =
+    let tested = c .before .before in
+    let arm = tested .before .before .before .before .before .before in
+    let read = arm .before .before .before in
+    let asked = read .before .before .before .before .before .pre in
+    let to = sym (arm .before .before .access-of .ensures) ∙ arm .kind .given .1 in
+    turns-last asked _ (read .event-at .ensures) _ _ to (sym (tested .if1 .taken) ∙ tested .before .asks .ensures) _ (c .last-write .ensures .1)
+
 add-asks : tie.Need-add-asks
 add-asks c = search needs
 
 asks-requires-2 : tie.Need-asks-requires-2
 asks-requires-2 c κs =
-    let arm = c .before .before .before .before .before .before .before in
+    let arm = c .before .before .before .before .before .before .before .before in
     let read = arm .before .before .before in
     let asked = read .before .before .before .before .before .pre in
     let to = sym (arm .before .before .access-of .ensures) ∙ arm .kind .given .1 in
@@ -45,14 +68,14 @@ asks-requires-2 c κs =
 
 access-requires : tie.Need-access-requires
 access-requires c κs =
-    let arm = c .before .before .before .before .before .before .before .before .before in
+    let passed = c .before .before .before .before in
+    let arm = passed .before .before .before .before .before .before in
     let read = arm .before .before .before in
     let asked = read .before .before .before .before .before .pre in
     let to = sym (arm .before .before .access-of .ensures) ∙ arm .kind .given .1 in
-    let wrote = c .before .before .before .before .asks .ensures in
-    let stood = c .before .asks2 .ensures in
+    let wrote = sym (passed .if1 .left) ∙ passed .before .asks .ensures in
     let r = record-below asked _ (read .event-at .ensures) _ _ to in
-    (accessible asked _ (read .event-at .ensures) _ _ to _ _ wrote stood, omega (arith, asked .unraced .midway .places-room))
+    (accessible asked _ (read .event-at .ensures) _ _ to _ _ wrote (c .before .asks2 .ensures), omega (arith, asked .unraced .midway .places-room))
 
 enum-known-first : tie.Need-enum-known-first
 enum-known-first c = search needs
@@ -74,22 +97,6 @@ advance-requires c κs =
     let to = sym (move .before .before .before .access-of .ensures) ∙ move .before .enum-told2 .given .1 in
     ready asked _ (read .event-at .ensures) to _ (move .move-of .ensures)
 
-same-length : tie.Need-same-length
-same-length c = search needs
-
-same-length-2 : tie.Need-same-length-2
-same-length-2 c = search needs
-
-returns : tie.Need-returns
-returns c =
-    let arm = c .before .before .before .before .before .before .before .before .before .before .before .before .before .before .before in
-    let read = arm .before .before .before in
-    let asked = read .before .before .before .before .before .pre in
-    let to = sym (arm .before .before .access-of .ensures) ∙ arm .kind .given .1 in
-    let met = c .before .before .before .before .before in
-    turns-race asked _ (read .event-at .ensures) _ _ to _ _ (met .before .before .before .before .before .asks .ensures) (met .before .before .asks2 .ensures) (met .access .last .0) _
-    (rw (c .before .first .given .1) at (met .access .ensures))
-
 same-length-3 : tie.Need-same-length-3
 same-length-3 c = search needs
 
@@ -98,13 +105,15 @@ same-length-4 c = search needs
 
 returns-2 : tie.Need-returns-2
 returns-2 c =
-    let arm = c .before .before .before .before .before .before .before .before .before .before .before .before .before .before in
+    let met = c .before .before .before .before .before in
+    let passed = met .before .before .before .before .before in
+    let arm = passed .before .before .before .before .before .before in
     let read = arm .before .before .before in
     let asked = read .before .before .before .before .before .pre in
     let to = sym (arm .before .before .access-of .ensures) ∙ arm .kind .given .1 in
-    let met = c .before .before .before .before in
-    turns-accessed asked _ (read .event-at .ensures) _ _ to _ _ (met .before .before .before .before .before .asks .ensures) (met .before .before .asks2 .ensures) (met .access .last .0)
-    (rw (c .enum-told .given .1) at (met .access .ensures))
+    let wrote = sym (passed .if1 .left) ∙ passed .before .asks .ensures in
+    turns-race asked _ (read .event-at .ensures) _ _ to _ _ wrote (met .before .before .asks2 .ensures) (met .access .last .0) _
+    (rw (c .before .first .given .1) at (met .access .ensures))
 
 same-length-5 : tie.Need-same-length-5
 same-length-5 c = search needs
@@ -114,6 +123,24 @@ same-length-6 c = search needs
 
 returns-3 : tie.Need-returns-3
 returns-3 c =
+    let met = c .before .before .before .before in
+    let passed = met .before .before .before .before .before in
+    let arm = passed .before .before .before .before .before .before in
+    let read = arm .before .before .before in
+    let asked = read .before .before .before .before .before .pre in
+    let to = sym (arm .before .before .access-of .ensures) ∙ arm .kind .given .1 in
+    let wrote = sym (passed .if1 .left) ∙ passed .before .asks .ensures in
+    turns-accessed asked _ (read .event-at .ensures) _ _ to _ _ wrote (met .before .before .asks2 .ensures) (met .access .last .0)
+    (rw (c .enum-told .given .1) at (met .access .ensures))
+
+same-length-7 : tie.Need-same-length-7
+same-length-7 c = search needs
+
+same-length-8 : tie.Need-same-length-8
+same-length-8 c = search needs
+
+returns-4 : tie.Need-returns-4
+returns-4 c =
     let move = c .before .before .before .before .before .before .before .before .before in
     let read = move .before .before .before .before in
     let asked = read .before .before .before .before .before .pre in
@@ -131,6 +158,10 @@ take-spec =
     cast-r
     sub-strand
     asks-requires
+    last-write-requires
+    same-length
+    same-length-2
+    returns
     add-asks
     asks-requires-2
     access-requires
@@ -139,12 +170,12 @@ take-spec =
     enum-told-2
     move-of-requires
     advance-requires
-    same-length
-    same-length-2
-    returns
     same-length-3
     same-length-4
     returns-2
     same-length-5
     same-length-6
-    returns-3)
+    returns-3
+    same-length-7
+    same-length-8
+    returns-4)
