@@ -169,7 +169,7 @@ recordNumbers =
 
 -- ---- tasks and strands: refusals 10 to 13
 
--- jobs with no name and one record, and the strands of each
+-- jobs with no name and one record, and the strands of each; a job without its number is a case that no answer fits
 abbrev counted : List (List Event) → List ℕ → List Case
 counted (es ∷ jobs) (n ∷ strands) = (job [] 1 es, taken 0 (length es) 1 n) ∷ counted jobs strands
 counted [] strands = []
