@@ -1,5 +1,4 @@
 pub mod Tests
-pub mod Head
 pub mod Moves
 pub mod Turns
 pub mod Checking

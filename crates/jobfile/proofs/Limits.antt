@@ -1,4 +1,4 @@
--- One computed answer past each limit that only a definition has: refusals 6, 10, 12 and 13. Whole files stand in crate small_jobs.
+-- One computed answer past each limit that only a definition has: refusals 10, 12 and 13. Whole files stand in crate small_jobs.
 -- Assumes nothing.
 use mathlib.Core.Path.{_≡_, refl}
 use mathlib.Core.Bool.{true}
@@ -7,14 +7,8 @@ use Rattle.jobfile.specs.declared.event.Event.the-variants.{Spawn as S, 
 use Rattle.jobfile.specs.declared.tasks.Traced.the-variants.{Refused}
 use Rattle.jobfile.specs.Refusals.{refusalOf}
 use Rattle.jobfile.specs.Coding.{eventOf}
-use Rattle.jobfile.specs.Trailer.{trailerFault}
 use Rattle.jobfile.specs.Tasks.{recordFault, taskFault, moveOn, stepOn, finish, traceFrom, traceOf}
 use Rattle.jobfile.specs.Samples.{eventBytes}
-
--- two events, and room for one before the trailer
-pub distance-over : trailerFault 4 8 2 1 ≡ 6
-unfolding trailerFault
-distance-over = refl
 
 pub root-ended : traceOf 1 (eventBytes (E ∷ [])) ≡ Refused (refusalOf 10 0)
 unfolding eventOf recordFault taskFault moveOn stepOn finish traceFrom

@@ -15,7 +15,7 @@ use Rattle.jobfile.specs.declared.event.Event.the-variants.{Read, Write}
 use Rattle.jobfile.specs.declared.coding.Decoded.the-variants.{Event as An, Refused}
 use Rattle.jobfile.proofs.Tests.{either}
 use Rattle.jobfile.specs.Coding.{eventOf, toldOf, decodeAt}
-use Rattle.jobfile.specs.Trailer.{wordAt}
+use Rattle.trailer.specs.Trailer.{wordAt}
 use Rattle.jobfile.specs.Tasks.{bareEvent, recordFault, stepOn, stepOf, Leads}
 use Rattle.jobfile.specs.declared.tasks.Step.{Step}
 use Rattle.jobfile.specs.declared.tasks.Step.the-variants.{Go, Stop, NoEvent}

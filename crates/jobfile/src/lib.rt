@@ -6,7 +6,6 @@ mod coding;
 mod event;
 mod refusal;
 mod tasks;
-mod trailer;
 
 pub use coding::Decoded;
 pub use coding::decode;
@@ -21,8 +20,6 @@ pub use refusal::Refusal;
 pub use refusal::refuse;
 pub use tasks::Traced;
 pub use tasks::trace;
-pub use trailer::MARK;
-pub use trailer::printable;
 ghost use mathlib.Core.Path.{_≡_};
 ghost use Prim.Native.Nat.{_*_};
 ghost use lib.ListN.{length};

@@ -4,7 +4,7 @@ use mathlib.Core.Path.{_≡_, refl}
 use mathlib.Core.List.{List, [], _∷_, map}
 use Rattle.jobfile.specs.Coding.{eventOf}
 use Rattle.jobfile.specs.Trace.{eventAt, tasksAt, begunAt}
-use Rattle.jobfile.specs.Trailer.{wordAt, startsWith, printable, trailerFault, headNamed, headSized, headOf}
+use Rattle.trailer.specs.Trailer.{wordAt, startsWith, printable, trailerFault, headNamed, headSized, headOf}
 use Rattle.jobfile.specs.Tasks.{taskFault, recordFault, stepOn, moveOn, finish, traceFrom}
 use Rattle.jobfile.specs.File.{checkOf}
 use Rattle.jobfile.specs.Samples.{l4}

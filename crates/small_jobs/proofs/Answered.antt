@@ -3,7 +3,7 @@ use mathlib.Core.Path.{_≡_, refl}
 use mathlib.Core.List.{map}
 use lib.ListN.{take}
 use Rattle.jobfile.specs.Coding.{eventOf}
-use Rattle.jobfile.specs.Trailer.{wordAt, startsWith, printable, trailerFault, headNamed, headSized, headOf}
+use Rattle.trailer.specs.Trailer.{wordAt, startsWith, printable, trailerFault, headNamed, headSized, headOf}
 use Rattle.jobfile.specs.Tasks.{recordFault, taskFault, moveOn, stepOn, finish, traceFrom}
 use Rattle.jobfile.specs.File.{checkOf, nameLength, eventPart}
 use Rattle.jobfile.specs.Samples.{eventBytes, l4, l4Name, l4Events}

@@ -11,7 +11,7 @@ use Rattle.jobfile.specs.declared.event.Event.the-variants.{Spawn as S, End as 
 use Rattle.jobfile.specs.declared.tasks.Traced.{Traced}
 use Rattle.jobfile.specs.declared.tasks.Traced.the-variants.{Whole, Refused as TraceRefused}
 use Rattle.jobfile.specs.Refusals.{refusalOf}
-use Rattle.jobfile.specs.Trailer.{mark}
+use Rattle.trailer.specs.Trailer.{mark}
 use Rattle.jobfile.specs.Tasks.{traceFrom}
 use Rattle.jobfile.specs.File.{checkOf}
 use Rattle.jobfile.specs.Samples.{coded, bytesOf, eventBytes, starred, l4}
