@@ -4,6 +4,6 @@ use Rattle.judging.proofs.OneAnswer.{judged-once}
 use Rattle.exports.specs.OneAnswer.{JudgedOnce}
 
 pub rz-judged-once : JudgedOnce
-rz-judged-once file k L₀ K₀ P₀ A L K P A′ L′ K′ P′ a b =
-    let once = judged-once file k L₀ K₀ P₀ _ _ L K P L′ K′ P′ (record { answer = refl; leaves = a .leaves }) (record { answer = refl; leaves = b .leaves }) in
-    (a .numbers ∙ sym (b .numbers), once .1, once .2, once .3)
+rz-judged-once file k B₀ A A′ B B′ a b =
+    let once = judged-once file k B₀ _ _ B B′ (record { answer = refl; leaves = a .leaves }) (record { answer = refl; leaves = b .leaves }) in
+    (a .numbers ∙ sym (b .numbers), once .1)

@@ -3,17 +3,17 @@
 use mathlib.Core.Path.{_≡_}
 use mathlib.Core.List.{List}
 use Prim.Native.Nat.{ℕ}
-use lib.ListN.{length}
-use Rattle.judging.specs.Answers.{judgeOf}
-use Rattle.judging.specs.Buffers.{Leaves}
+use Rattle.taking.specs.Buffers.{Buffers}
+use Rattle.judging.specs.Answers.{judgeWith}
+use Rattle.judging.specs.Leaves.{Leaves}
 use Rattle.exports.specs.Numbers.{judgeNumbers}
 
--- What the contract of `rz_judge` says: A is what `answer` holds afterwards; the buffers were lent as L₀, K₀ and P₀, and hold L, K and P.
-pub record CallGives (file : List ℕ) (k : ℕ) (L₀ K₀ P₀ A L K P : List ℕ) : Type 0 where
-  pub numbers : A ≡ judgeNumbers (judgeOf file k (length L₀) (length K₀) (length P₀))
-  pub leaves : Leaves (judgeOf file k (length L₀) (length K₀) (length P₀)) file k L₀ K₀ P₀ L K P
+-- What the contract of `rz_judge` says: A is what `answer` holds afterwards; the buffers were lent as B₀, and are B.
+pub record CallGives (file : List ℕ) (k : ℕ) (B₀ : Buffers) (A : List ℕ) (B : Buffers) : Type 0 where
+  pub numbers : A ≡ judgeNumbers (judgeWith file k B₀)
+  pub leaves : Leaves (judgeWith file k B₀) file k B₀ B
 
 abbrev pub JudgedOnce : Type 0
 JudgedOnce =
-    (file : List ℕ) (k : ℕ) (L₀ K₀ P₀ A L K P A′ L′ K′ P′ : List ℕ)
-    → CallGives file k L₀ K₀ P₀ A L K P → CallGives file k L₀ K₀ P₀ A′ L′ K′ P′ → (A ≡ A′) × (L ≡ L′) × (K ≡ K′) × (P ≡ P′)
+    (file : List ℕ) (k : ℕ) (B₀ : Buffers) (A A′ : List ℕ) (B B′ : Buffers)
+    → CallGives file k B₀ A B → CallGives file k B₀ A′ B′ → (A ≡ A′) × (B ≡ B′)

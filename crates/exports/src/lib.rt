@@ -9,8 +9,9 @@ ghost use Rattle.jobfile.specs.Lent.{was, is};
 ghost use Rattle.jobfile.specs.File.{checkOf, eventCount};
 ghost use Rattle.writing.specs.Written.{writeOf, outAfter};
 ghost use Rattle.relation.specs.Question.{questionOf};
-ghost use Rattle.judging.specs.Answers.{judgeOf};
-ghost use Rattle.judging.specs.Buffers.{Leaves};
+ghost use Rattle.taking.specs.Buffers.{before, after};
+ghost use Rattle.judging.specs.Answers.{judgeWith};
+ghost use Rattle.judging.specs.Leaves.{Leaves};
 ghost use Rattle.exports.specs.Numbers.{readNumbers, writeNumbers, questionNumbers, judgeNumbers};
 use jobfile::Checked;
 use writing::Written;
@@ -57,8 +58,8 @@ pub extern "C" fn rz_judge(
     places: &mut [u32],
     answer: &mut [u64; 9],
 )
-    ensures { λ _. ⌜ is answer ≡ judgeNumbers (judgeOf (was file) k (length (was labels)) (length (was links)) (length (was places))) ⌝ }
-    ensures { λ _. ⌜ Leaves (judgeOf (was file) k (length (was labels)) (length (was links)) (length (was places))) (was file) k (was labels) (was links) (was places) (is labels) (is links) (is places) ⌝ }
+    ensures { λ _. ⌜ is answer ≡ judgeNumbers (judgeWith (was file) k (before labels links places)) ⌝ }
+    ensures { λ _. ⌜ Leaves (judgeWith (was file) k (before labels links places)) (was file) k (before labels links places) (after labels links places) ⌝ }
 {
     *answer = judge_numbers(judging::judge(file, k as usize, labels, links, places));
 }

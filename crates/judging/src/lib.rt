@@ -3,9 +3,10 @@
 // Every byte string, every k and buffers of any length are dealt with. A refusal stores nothing.
 ghost use mathlib.Core.Path.{_≡_};
 ghost use lib.ListN.{length};
-ghost use Rattle.jobfile.specs.Lent.{was, is};
-ghost use Rattle.judging.specs.Answers.{judgeOf, judgeFault, judgedOf};
-ghost use Rattle.judging.specs.Buffers.{Leaves, Shows};
+ghost use Rattle.jobfile.specs.Lent.{was};
+ghost use Rattle.judging.specs.Answers.{judgeWith, judgeFault, judgedOf};
+ghost use Rattle.judging.specs.Leaves.{Leaves, Shows};
+ghost use Rattle.taking.specs.Buffers.{before, after};
 ghost use Rattle.taking.specs.Turns.{Run};
 ghost use Rattle.jobfile.specs.File.{checkOf};
 ghost use Rattle.jobfile.specs.Trace.{eventAt};
@@ -50,8 +51,8 @@ pub fn judge(
     links: &mut [u16],
     places: &mut [u32],
 ) -> Answer
-    ensures { λ r. ⌜ r ≡ judgeOf (was file) k (length (was labels)) (length (was links)) (length (was places)) ⌝ }
-    ensures { λ r. ⌜ Leaves r (was file) k (was labels) (was links) (was places) (is labels) (is links) (is places) ⌝ }
+    ensures { λ r. ⌜ r ≡ judgeWith (was file) k (before labels links places) ⌝ }
+    ensures { λ r. ⌜ Leaves r (was file) k (before labels links places) (after labels links places) ⌝ }
 {
     match jobfile::check(file) {
         Checked::Refused(r) => Answer::Refused(r),
@@ -70,8 +71,8 @@ pub fn judge_job(
     places: &mut [u32],
 ) -> Answer
     requires { ⌜ checkOf (now file) ≡ Accepted job ⌝ }
-    ensures { λ r. ⌜ r ≡ judgeOf (was file) k (length (was labels)) (length (was links)) (length (was places)) ⌝ }
-    ensures { λ r. ⌜ Leaves r (was file) k (was labels) (was links) (was places) (is labels) (is links) (is places) ⌝ }
+    ensures { λ r. ⌜ r ≡ judgeWith (was file) k (before labels links places) ⌝ }
+    ensures { λ r. ⌜ Leaves r (was file) k (before labels links places) (after labels links places) ⌝ }
 {
     let fault = judge_fault(job, k, labels.len(), links.len(), places.len());
     if fault != 0 {
@@ -119,7 +120,7 @@ fn run(
     requires { ⌜ Run (now part) records k ⌝ }
     requires { ⌜ (8192 ≤ length (now labels)) × (16384 ≤ length (now links)) × (16384 ≤ length (now places)) ⌝ }
     ensures { λ r. ⌜ r ≡ judgedOf (eventAt (was part)) k ⌝ }
-    ensures { λ _. ⌜ Shows (eventAt (was part)) (stopAt (eventAt (was part)) k) records (was labels) (was links) (was places) (is labels) (is links) (is places) ⌝ }
+    ensures { λ _. ⌜ Shows (eventAt (was part)) (stopAt (eventAt (was part)) k) records (before labels links places) (after labels links places) ⌝ }
 {
     races::clear(places, records);
     let mut lasts = [0; OPEN_TASKS];

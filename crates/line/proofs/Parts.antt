@@ -21,9 +21,10 @@ use Rattle.races.specs.Records.{Verdict, clean, race}
 use Rattle.races.specs.Named.{verdict}
 use Rattle.races.proofs.Named.{verdict-race}
 use Rattle.judging.specs.Answers.{answerWith, judgedOf, judgeFault, afterCheck, judgeOf}
-use Rattle.judging.specs.Buffers.{Leaves}
+use Rattle.judging.specs.Leaves.{Leaves}
 use Rattle.judging.specs.declared.Answer.{Answer}
 use Rattle.judging.specs.declared.Answer.the-variants.{Refused}
+use Rattle.taking.specs.Buffers.{Buffers}
 use Rattle.line.specs.Text.{refusalText, answerText, PairWithin}
 use Rattle.line.specs.Line.{answerOf, lineOf}
 
@@ -63,9 +64,9 @@ unfolding lineOf judgeOf
 refused-line input labels links places r e = rw e (refl, refl)
 
 -- and nothing is stored
-pub leaves-none : (input : List ℕ) (labels links places : ℕ) (r : Refusal) → checkOf input ≡ Unread r → (L K P : List ℕ)
-    → Leaves (answerOf input labels links places) input (eventCount (checkOf input)) L K P L K P
-leaves-none input labels links places r e L K P = rw (refused-line input labels links places r e .0) (refl, refl, refl)
+pub leaves-none : (input : List ℕ) (labels links places : ℕ) (r : Refusal) → checkOf input ≡ Unread r → (B : Buffers)
+    → Leaves (answerOf input labels links places) input (eventCount (checkOf input)) B B
+leaves-none input labels links places r e B = rw (refused-line input labels links places r e .0) refl
 
 -- the name is at most 64 bytes
 pub start-short : (input : List ℕ) (job : Job) → checkOf input ≡ Accepted job → length (take (job .start) input) ≤ 64
@@ -91,8 +92,8 @@ module _ (input : List ℕ) (labels links places : ℕ) (job : Job) (ok : checkO
       let name : take (job .start) input ≡ take (nameLength (checkOf input)) input = rw ok in
       rw (all-judged, part-same, name)
 
-  pub leaves-all : (L₀ K₀ P₀ L K P : List ℕ) → Leaves a input (job .events) L₀ K₀ P₀ L K P
-      → Leaves (answerOf input labels links places) input (eventCount (checkOf input)) L₀ K₀ P₀ L K P
-  leaves-all L₀ K₀ P₀ L K P S =
+  pub leaves-all : (B₀ B : Buffers) → Leaves a input (job .events) B₀ B
+      → Leaves (answerOf input labels links places) input (eventCount (checkOf input)) B₀ B
+  leaves-all B₀ B S =
       let count : job .events ≡ eventCount (checkOf input) = rw ok in
       rw (← all-judged, ← count) S

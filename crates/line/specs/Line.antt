@@ -8,8 +8,9 @@ use lib.ListN.{length, take, drop}
 use Rattle.io.specs.Counts.{Counts}
 use Rattle.jobfile.specs.File.{checkOf, nameLength, eventCount, eventPart}
 use Rattle.judging.specs.Answers.{judgeOf}
-use Rattle.judging.specs.Buffers.{Leaves}
+use Rattle.judging.specs.Leaves.{Leaves}
 use Rattle.judging.specs.declared.Answer.{Answer}
+use Rattle.taking.specs.Buffers.{Buffers}
 use Rattle.line.specs.Text.{answerText}
 use Rattle.bytes_at.specs.Put.{Put}
 use Rattle.line.specs.declared.Lined.{Lined}
@@ -22,6 +23,13 @@ answerOf input labels links places = judgeOf input (eventCount (checkOf input)) 
 unfoldable pub lineOf : List ℕ → ℕ → ℕ → ℕ → List ℕ
 lineOf input labels links places =
     answerText (answerOf input labels links places) (eventPart input) (take (nameLength (checkOf input)) input)
+
+-- with the buffers that are lent
+abbrev pub judgeAllWith : List ℕ → Buffers → Answer
+judgeAllWith input B = answerOf input (length (B .labels)) (length (B .links)) (length (B .places))
+
+abbrev pub lineWith : List ℕ → Buffers → List ℕ
+lineWith input B = lineOf input (length (B .labels)) (length (B .links)) (length (B .places))
 
 -- what comes back for a line and an output of so many bytes
 unfoldable pub linedOf : List ℕ → ℕ → Lined
@@ -36,14 +44,14 @@ abbrev pub LineFits : Lined → List ℕ → Type 0
 LineFits (Bytes n) out = Counts n out
 LineFits Short out = length out < 256
 
--- What `line` gives and leaves for the work buffers L₀, K₀ and P₀ and the output out₀, each entry of each.
-pub record LineGives (input L₀ K₀ P₀ out₀ : List ℕ) (r : Lined) (L K P out : List ℕ) : Type 0 where
-  pub answer : r ≡ linedOf (lineOf input (length L₀) (length K₀) (length P₀)) (length out₀)
-  pub output : out ≡ outOf (lineOf input (length L₀) (length K₀) (length P₀)) out₀
-  pub buffers : Leaves (answerOf input (length L₀) (length K₀) (length P₀)) input (eventCount (checkOf input)) L₀ K₀ P₀ L K P
+-- What `line` gives and leaves for the work buffers B₀ and the output out₀, each entry of each.
+pub record LineGives (input : List ℕ) (B₀ : Buffers) (out₀ : List ℕ) (r : Lined) (B : Buffers) (out : List ℕ) : Type 0 where
+  pub answer : r ≡ linedOf (lineWith input B₀) (length out₀)
+  pub output : out ≡ outOf (lineWith input B₀) out₀
+  pub buffers : Leaves (judgeAllWith input B₀) input (eventCount (checkOf input)) B₀ B
 
 -- What is put into a text of at least 256 bytes: the line, whose bytes are as many as n says; and what is left in the work buffers.
-pub record TextGives (input L₀ K₀ P₀ text₀ : List ℕ) (n : ℕ) (L K P text : List ℕ) : Type 0 where
-  pub line : Put text₀ 0 (lineOf input (length L₀) (length K₀) (length P₀)) n text
+pub record TextGives (input : List ℕ) (B₀ : Buffers) (text₀ : List ℕ) (n : ℕ) (B : Buffers) (text : List ℕ) : Type 0 where
+  pub line : Put text₀ 0 (lineWith input B₀) n text
   pub fits : n ≤ 256
-  pub buffers : Leaves (answerOf input (length L₀) (length K₀) (length P₀)) input (eventCount (checkOf input)) L₀ K₀ P₀ L K P
+  pub buffers : Leaves (judgeAllWith input B₀) input (eventCount (checkOf input)) B₀ B

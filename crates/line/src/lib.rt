@@ -11,6 +11,7 @@ ghost use lib.ListN.{length};
 ghost use Rattle.jobfile.specs.File.{checkOf};
 ghost use Rattle.jobfile.specs.Lent.{was, is};
 ghost use Rattle.jobfile.specs.declared.Checked.the-variants.{Accepted};
+ghost use Rattle.taking.specs.Buffers.{before, after};
 ghost use Rattle.line.specs.Line.{linedOf, outOf, LineFits, LineGives, TextGives};
 use bytes_at::put;
 use jobfile::Checked;
@@ -31,7 +32,7 @@ pub fn line(
     places: &mut [u32],
     out: &mut [u8],
 ) -> Lined
-    ensures { λ r. ⌜ LineGives (was input) (was labels) (was links) (was places) (was out) r (is labels) (is links) (is places) (is out) ⌝ }
+    ensures { λ r. ⌜ LineGives (was input) (before labels links places) (was out) r (after labels links places) (is out) ⌝ }
     ensures { λ r. ⌜ LineFits r (is out) ⌝ }
 {
     let mut text = [0u8; 256];
@@ -49,7 +50,7 @@ fn text_of(
     places: &mut [u32],
 ) -> usize
     requires { ⌜ 256 ≤ length (now text) ⌝ }
-    ensures { λ n. ⌜ TextGives (was input) (was labels) (was links) (was places) (was text) n (is labels) (is links) (is places) (is text) ⌝ }
+    ensures { λ n. ⌜ TextGives (was input) (before labels links places) (was text) n (after labels links places) (is text) ⌝ }
 {
     match jobfile::check(input) {
         Checked::Refused(r) => answers::refusal(text, r),
@@ -69,7 +70,7 @@ fn judged(
 ) -> usize
     requires { ⌜ 256 ≤ length (now text) ⌝ }
     requires { ⌜ checkOf (now input) ≡ Accepted job ⌝ }
-    ensures { λ n. ⌜ TextGives (was input) (was labels) (was links) (was places) (was text) n (is labels) (is links) (is places) (is text) ⌝ }
+    ensures { λ n. ⌜ TextGives (was input) (before labels links places) (was text) n (after labels links places) (is text) ⌝ }
 {
     let start = job.start;
     let end = start + 4 * job.events;

@@ -17,7 +17,7 @@ use Rattle.jobfile.specs.declared.event.Access.the-variants.{To}
 use Rattle.relation.specs.Parallel.{Rooted}
 use Rattle.relation.specs.Strand.{strandAt}
 use Rattle.relation.proofs.Strand.{begun-some, begun-rises}
-use Rattle.strands.specs.Memory.{Memory, OpenTasks}
+use Rattle.strands.specs.Memory.{OpenTasks}
 use Rattle.strands.specs.declared.Now.{Now}
 use Rattle.strands.proofs.States.{tells}
 use Rattle.races.specs.Places.{holds, parTo, held}
@@ -28,14 +28,15 @@ use Rattle.races.specs.Mark.{rank, actOf, rules, layout, two, eventTrace}
 use Rattle.races.proofs.Shown.{told-by}
 use Rattle.races.proofs.Mark.{places-laid}
 use Rattle.races.proofs.Named.{lawful, fit}
+use Rattle.taking.specs.Buffers.{Buffers, ordersIn}
 use Rattle.taking.specs.Asking.{heldOr, heldAbove, Askable}
 use Rattle.taking.specs.Turns.{Run, Midway}
 
 pub run-rooted : {part : List ℕ} {records k : ℕ} → Run part records k → (n : ℕ) → n ≤ k → Rooted (moves (eventAt part)) n
 run-rooted R n h m l = R .accepted .rooted m (omega (arith, R .within))
 
-module _ {part : List ℕ} {records k : ℕ} {M₀ M : Memory} {P₀ P : List ℕ} {T : OpenTasks} {now : Now} {i : ℕ}
-    (R : Run part records k) (next : i < k) (S : Midway part records M₀ P₀ M T P now i) where
+module _ {part : List ℕ} {records k : ℕ} {B₀ B : Buffers} {T : OpenTasks} {now : Now} {i : ℕ}
+    (R : Run part records k) (next : i < k) (S : Midway part records B₀ B T now i) where
   -- the current strand, and that the strand of every event so far has a label
   strand-is : now .strands - 1 ≡ strandAt (moves (eventAt part)) i
   strand-is = ap (λ (s : ℕ). s - 1) (S .reached .strands)
@@ -50,7 +51,7 @@ module _ {part : List ℕ} {records k : ℕ} {M₀ M : Memory} {P₀ P : List �
   on-record kind r e = let b : RecordBelow records (To kind r) = rw e at (R .accepted .record-below i (omega (arith, R .within))) in b
 
   -- a place may be asked
-  pub askable : (at : ℕ) → at < 12288 → Askable P (M .labels) at (now .strands - 1)
+  pub askable : (at : ℕ) → at < 12288 → Askable (B .places) (B .labels) at (now .strands - 1)
   askable at h = record {
     inside = omega (arith, S .places-room);
     labels = S .reached .labels-room;
@@ -59,21 +60,21 @@ module _ {part : List ℕ} {records k : ℕ} {M₀ M : Memory} {P₀ P : List �
 
   -- and what asking it answers
   asked : (r c : ℕ) → HasPlace layout records r c → secondOf rules (eventTrace (eventAt part)) r i ≡ none
-      → heldAbove (M .labels) P (8192 * c + r) (now .strands - 1)
+      → heldAbove (B .labels) (B .places) (8192 * c + r) (now .strands - 1)
       ≡ holds (parTo (eventTrace (eventAt part)) i) (held rules (eventTrace (eventAt part)) r c i)
   unfolding heldAbove heldOr
   asked r c here unraced =
-      let L = M .labels in
+      let L = B .labels in
       let s = now .strands - 1 in
-      told-by rules (eventTrace (eventAt part)) layout records P₀ (lawful (eventAt part)) i P (S .shown) r c here unraced
+      told-by rules (eventTrace (eventAt part)) layout records (B₀ .places) (lawful (eventAt part)) i (B .places) (S .shown) r c here unraced
       (λ held. ltb (getD L (4096 + s) 0) (getD L (4096 + heldOr held s) 0))
       (le-ltb (getD L (4096 + s) 0) (getD L (4096 + s) 0) (omega arith))
       (λ m l.
       rw (lt-ltb (strandAt (moves (eventAt part)) m) 4096 (labelled m (omega arith)), strand-is)
-      (tells (moves (eventAt part)) i M₀ M T now (S .reached) (run-rooted R i (omega arith)) m (omega arith)))
+      (tells (moves (eventAt part)) i (ordersIn B₀) (ordersIn B) T now (S .reached) (run-rooted R i (omega arith)) m (omega arith)))
 
   asked-both : (r : ℕ) → r < records → secondOf rules (eventTrace (eventAt part)) r i ≡ none → (wrote stood : Bool)
-      → wrote ≡ heldAbove (M .labels) P r (now .strands - 1) → stood ≡ heldAbove (M .labels) P (8192 + r) (now .strands - 1)
+      → wrote ≡ heldAbove (B .labels) (B .places) r (now .strands - 1) → stood ≡ heldAbove (B .labels) (B .places) (8192 + r) (now .strands - 1)
       → (c : ℕ) → c < 2 → two wrote stood c ≡ holds (parTo (eventTrace (eventAt part)) i) (held rules (eventTrace (eventAt part)) r c i)
   asked-both r h unraced wrote stood w s zero l =
       let e : 8192 * 0 + r ≡ r = omega arith in
@@ -85,8 +86,8 @@ module _ {part : List ℕ} {records k : ℕ} {M₀ M : Memory} {P₀ P : List �
 
   -- so the next event, if it is an access to a record that has not raced, may be judged
   pub arriving : (kind : Kind) (r : ℕ) → accessOf (eventAt part i) ≡ To kind r → secondOf rules (eventTrace (eventAt part)) r i ≡ none
-      → (wrote stood : Bool) → wrote ≡ heldAbove (M .labels) P r (now .strands - 1) → stood ≡ heldAbove (M .labels) P (8192 + r) (now .strands - 1)
-      → Arriving rules (eventTrace (eventAt part)) layout i records P₀ P r (rank kind) i (now .strands - 1) (two wrote stood)
+      → (wrote stood : Bool) → wrote ≡ heldAbove (B .labels) (B .places) r (now .strands - 1) → stood ≡ heldAbove (B .labels) (B .places) (8192 + r) (now .strands - 1)
+      → Arriving rules (eventTrace (eventAt part)) layout i records (B₀ .places) (B .places) r (rank kind) i (now .strands - 1) (two wrote stood)
   arriving kind r e unraced wrote stood w s = record {
     facing = record {
       law = lawful (eventAt part);
@@ -96,7 +97,7 @@ module _ {part : List ℕ} {records k : ℕ} {M₀ M : Memory} {P₀ P : List �
       tells = λ c l z. asked-both r (on-record kind r e) unraced wrote stood w s c l;
     };
     shown = S .shown;
-    laid = places-laid records (length P) (R .records-fit) (S .places-room);
+    laid = places-laid records (length (B .places)) (R .records-fit) (S .places-room);
     on-record = on-record kind r e;
     number = refl;
     number-fits = omega (arith, R .within, R .small);

@@ -15,7 +15,7 @@ use Rattle.jobfile.specs.declared.event.Move.the-variants.{Stays}
 use Rattle.jobfile.specs.declared.event.Access.the-variants.{None, To}
 use Rattle.jobfile.proofs.Accesses.{access-stays}
 use Rattle.relation.proofs.Strand.{begun-some}
-use Rattle.strands.specs.Memory.{Memory, OpenTasks}
+use Rattle.strands.specs.Memory.{OpenTasks}
 use Rattle.strands.specs.Reached.{Takes, Ready, Advances}
 use Rattle.strands.specs.declared.Now.{Now}
 use Rattle.strands.proofs.Events.{nothing-advances}
@@ -30,9 +30,17 @@ use Rattle.races.proofs.Shown.{first-met, nothing-met, shown-other, shown-froze
 use Rattle.races.proofs.OneRace.{all-unraced, still-none, stops-here}
 use Rattle.races.proofs.Named.{lawful, fit}
 use Rattle.taking.specs.declared.Turn.the-variants.{Go, Raced}
+use Rattle.taking.specs.Buffers.{Buffers, ordersIn}
 use Rattle.taking.specs.Asking.{heldAbove, Askable}
 use Rattle.taking.specs.Turns.{Run, Midway, Unraced, Turnable, Turns}
 use Rattle.taking.proofs.Asking.{run-rooted, on-record, askable, arriving}
+
+-- the buffers with other places, and with other orders
+abbrev pub placed : Buffers → List ℕ → Buffers
+placed B P = record { labels = B .labels; links = B .links; places = P }
+
+abbrev pub moved : Buffers → List ℕ → List ℕ → Buffers
+moved B L K = record { labels = L; links = K; places = B .places }
 
 -- event i may be taken
 taken : {part : List ℕ} {records k i : ℕ} → Run part records k → i < k → Takes (moves (eventAt part)) i (moveOf (eventAt part i))
@@ -44,39 +52,39 @@ taken {i = i} R h = record {
 }
 
 -- One event further, whatever has raced so far.
-module _ {part : List ℕ} {records k : ℕ} {M₀ M : Memory} {P₀ P : List ℕ} {T : OpenTasks} {now : Now} {i : ℕ}
-    (R : Run part records k) (next : i < k) (S : Midway part records M₀ P₀ M T P now i) where
+module _ {part : List ℕ} {records k : ℕ} {B₀ B : Buffers} {T : OpenTasks} {now : Now} {i : ℕ}
+    (R : Run part records k) (behind : i < k) (S : Midway part records B₀ B T now i) where
   -- an access does not move: the state of the strands is that behind it
   access-midway : (kind : Kind) (r : ℕ) → accessOf (eventAt part i) ≡ To kind r → (P′ : List ℕ)
-      → Shown rules (eventTrace (eventAt part)) layout (suc i) records P₀ P′ → Midway part records M₀ P₀ M T P′ now (suc i)
+      → Shown rules (eventTrace (eventAt part)) layout (suc i) records (B₀ .places) P′ → Midway part records B₀ (placed B P′) T now (suc i)
   access-midway kind r e P′ shown = record {
-    reached = nothing-advances M T now Stays T (refl, refl, refl, refl) (moves (eventAt part)) i M₀ (S .reached)
-        (rw (access-stays (eventAt part i) kind r e) at (taken R next));
+    reached = nothing-advances (ordersIn B) T now Stays T (refl, refl, refl, refl) (moves (eventAt part)) i (ordersIn B₀) (S .reached)
+        (rw (access-stays (eventAt part i) kind r e) at (taken R behind));
     shown = shown;
     places-room = omega (arith, shown .size, S .shown .size, S .places-room);
   }
 
   -- an access of a record that has raced is left alone
   pub frozen-midway : (kind : Kind) (r j : ℕ) → accessOf (eventAt part i) ≡ To kind r → secondOf rules (eventTrace (eventAt part)) r i ≡ some j
-      → Midway part records M₀ P₀ M T P now (suc i)
+      → Midway part records B₀ B T now (suc i)
   frozen-midway kind r j e raced =
       let ev = eventAt part in
-      access-midway kind r e P
-      (shown-frozen rules (eventTrace ev) layout records P₀ (lawful ev) (fit ev) i P (S .shown) r (rank kind) j (ap actOf e) raced)
+      access-midway kind r e (B .places)
+      (shown-frozen rules (eventTrace ev) layout records (B₀ .places) (lawful ev) (fit ev) i (B .places) (S .shown) r (rank kind) j (ap actOf e) raced)
 
   -- an event that is no access
-  move-midway : accessOf (eventAt part i) ≡ None → (M′ : Memory) (T′ : OpenTasks) (after : Now) → Advances M T now (moveOf (eventAt part i)) M′ T′ after
-      → Midway part records M₀ P₀ M′ T′ P after (suc i)
-  move-midway e M′ T′ after advances =
+  move-midway : accessOf (eventAt part i) ≡ None → (L′ K′ : List ℕ) (T′ : OpenTasks) (next : Now)
+      → Advances (ordersIn B) T now (moveOf (eventAt part i)) (record { labels = L′; links = K′ }) T′ next → Midway part records B₀ (moved B L′ K′) T′ next (suc i)
+  move-midway e L′ K′ T′ next advances =
       let ev = eventAt part in
       record {
-        reached = advances (moves ev) i M₀ (S .reached) (taken R next);
-        shown = shown-other rules (eventTrace ev) layout records P₀ (lawful ev) (fit ev) i P (S .shown) (ap actOf e);
+        reached = advances (moves ev) i (ordersIn B₀) (S .reached) (taken R behind);
+        shown = shown-other rules (eventTrace ev) layout records (B₀ .places) (lawful ev) (fit ev) i (B .places) (S .shown) (ap actOf e);
         places-room = S .places-room;
       }
 
 -- what the next event asks, and what it gives; e is the event that was read
-module _ {part : List ℕ} {i : ℕ} {M : Memory} {T : OpenTasks} {P : List ℕ} {now : Now} (A : Turnable part i M T P now)
+module _ {part : List ℕ} {i : ℕ} {B : Buffers} {T : OpenTasks} {now : Now} (A : Turnable part i B T now)
     (e : Event) (same : e ≡ eventAt part i) where
   pub some-strands : 1 ≤ now .strands
   some-strands = omega (arith, A .unraced .midway .reached .strands, begun-some (moves (eventAt part)) i)
@@ -89,31 +97,31 @@ module _ {part : List ℕ} {i : ℕ} {M : Memory} {T : OpenTasks} {P : List ℕ}
     pub record-below : r < 4096
     record-below = omega (arith, on-record (A .run) (A .next) (A .unraced .midway) kind r to-record, A .run .records-fit)
 
-    pub may-ask : (at : ℕ) → at < 12288 → Askable P (M .labels) at (now .strands - 1)
+    pub may-ask : (at : ℕ) → at < 12288 → Askable (B .places) (B .labels) at (now .strands - 1)
     may-ask = askable (A .run) (A .next) (A .unraced .midway)
 
     -- with the two answers
-    module _ (wrote stood : Bool) (w : wrote ≡ heldAbove (M .labels) P r (now .strands - 1))
-        (s : stood ≡ heldAbove (M .labels) P (8192 + r) (now .strands - 1)) where
-      arrives : (records k : ℕ) (M₀ : Memory) (P₀ : List ℕ) → Run part records k → i < k → Unraced part records M₀ P₀ M T P now i
-          → Arriving rules (eventTrace (eventAt part)) layout i records P₀ P r (rank kind) i (now .strands - 1) (two wrote stood)
-      arrives records k M₀ P₀ R h U =
+    module _ (wrote stood : Bool) (w : wrote ≡ heldAbove (B .labels) (B .places) r (now .strands - 1))
+        (s : stood ≡ heldAbove (B .labels) (B .places) (8192 + r) (now .strands - 1)) where
+      arrives : (records k : ℕ) (B₀ : Buffers) → Run part records k → i < k → Unraced part records B₀ B T now i
+          → Arriving rules (eventTrace (eventAt part)) layout i records (B₀ .places) (B .places) r (rank kind) i (now .strands - 1) (two wrote stood)
+      arrives records k B₀ R h U =
           arriving R h (U .midway) kind r to-record (all-unraced rules (eventTrace (eventAt part)) i (U .none-raced) r) wrote stood w s
 
-      pub accessible : Accessible rules layout (two wrote stood) P r (rank kind) i (now .strands - 1)
+      pub accessible : Accessible rules layout (two wrote stood) (B .places) r (rank kind) i (now .strands - 1)
       accessible = record {
         T = eventTrace (eventAt part);
         n = i;
         records = A .records;
-        P₀ = A .P₀;
-        arriving = arrives (A .records) (A .k) (A .M₀) (A .P₀) (A .run) (A .next) (A .unraced);
+        P₀ = A .B₀ .places;
+        arriving = arrives (A .records) (A .k) (A .B₀) (A .run) (A .next) (A .unraced);
       }
 
-      pub turns-race : (P′ : List ℕ) (first : ℕ) → Accessed rules layout (two wrote stood) P r (rank kind) i (now .strands - 1) P′ (First first)
-          → Turns part i M T P now M T P′ (Raced first r)
-      turns-race P′ first accessed records k M₀ P₀ R h U =
-          let J = arrives records k M₀ P₀ R h U in
-          let p = accessed (eventTrace (eventAt part)) i records P₀ J in
+      pub turns-race : (P′ : List ℕ) (first : ℕ) → Accessed rules layout (two wrote stood) (B .places) r (rank kind) i (now .strands - 1) P′ (First first)
+          → Turns part i B T now (placed B P′) T (Raced first r)
+      turns-race P′ first accessed records k B₀ R h U =
+          let J = arrives records k B₀ R h U in
+          let p = accessed (eventTrace (eventAt part)) i records (B₀ .places) J in
           let f = first-met (firstOf rules (eventTrace (eventAt part)) r i) first (p .0) in (
             record {
               reached = U .midway .reached;
@@ -123,11 +131,11 @@ module _ {part : List ℕ} {i : ℕ} {M : Memory} {T : OpenTasks} {P : List ℕ}
             stops-here rules (eventTrace (eventAt part)) (lawful (eventAt part)) (fit (eventAt part)) i (U .none-raced) r (rank kind) first (ap actOf to-record) f,
           )
 
-      pub turns-accessed : (P′ : List ℕ) → Accessed rules layout (two wrote stood) P r (rank kind) i (now .strands - 1) P′ Nothing
-          → Turns part i M T P now M T P′ (Go now)
-      turns-accessed P′ accessed records k M₀ P₀ R h U =
+      pub turns-accessed : (P′ : List ℕ) → Accessed rules layout (two wrote stood) (B .places) r (rank kind) i (now .strands - 1) P′ Nothing
+          → Turns part i B T now (placed B P′) T (Go now)
+      turns-accessed P′ accessed records k B₀ R h U =
           let tr = eventTrace (eventAt part) in
-          let p = accessed tr i records P₀ (arrives records k M₀ P₀ R h U) in
+          let p = accessed tr i records (B₀ .places) (arrives records k B₀ R h U) in
           let own : recordOf (tr .act i) ≡ r = ap (λ a. recordOf (actOf a)) to-record in
           let f : found rules tr (recordOf (tr .act i)) i ≡ false = rw own (found-none rules tr r i (nothing-met (firstOf rules tr r i) (p .0))) in
           record {
@@ -136,11 +144,11 @@ module _ {part : List ℕ} {i : ℕ} {M : Memory} {T : OpenTasks} {P : List ℕ}
           }
 
     -- the last write is parallel: it is named, whatever stands
-    pub turns-last : true ≡ heldAbove (M .labels) P r (now .strands - 1) → (first : ℕ) → NamesLastWrite P r first
-        → Turns part i M T P now M T P (Raced first r)
+    pub turns-last : true ≡ heldAbove (B .labels) (B .places) r (now .strands - 1) → (first : ℕ) → NamesLastWrite (B .places) r first
+        → Turns part i B T now B T (Raced first r)
     turns-last w first named =
-        let stood = heldAbove (M .labels) P (8192 + r) (now .strands - 1) in
-        turns-race true stood w refl P first (named stood (rank kind) i (now .strands - 1))
+        let stood = heldAbove (B .labels) (B .places) (8192 + r) (now .strands - 1) in
+        turns-race true stood w refl (B .places) first (named stood (rank kind) i (now .strands - 1))
 
   -- an event that is no access, and its move
   module _ (to : accessOf e ≡ None) (m : Move) (is : m ≡ moveOf e) where
@@ -150,21 +158,22 @@ module _ {part : List ℕ} {i : ℕ} {M : Memory} {T : OpenTasks} {P : List ℕ}
     its-move : m ≡ moveOf (eventAt part i)
     its-move = is ∙ ap moveOf same
 
-    pub ready : Ready M T now m
+    pub ready : Ready (ordersIn B) T now m
     ready = record {
       mv = moves (eventAt part);
       n = i;
-      M₀ = A .M₀;
+      M₀ = ordersIn (A .B₀);
       reached = A .unraced .midway .reached;
       takes = rw its-move (taken (A .run) (A .next));
     }
 
-    pub turns-moved : (M′ : Memory) (T′ : OpenTasks) (after : Now) → Advances M T now m M′ T′ after → Turns part i M T P now M′ T′ P (Go after)
-    turns-moved M′ T′ after advances records k M₀ P₀ R h U =
+    pub turns-moved : (L′ K′ : List ℕ) (T′ : OpenTasks) (next : Now) → Advances (ordersIn B) T now m (record { labels = L′; links = K′ }) T′ next
+        → Turns part i B T now (moved B L′ K′) T′ (Go next)
+    turns-moved L′ K′ T′ next advances records k B₀ R h U =
         let tr = eventTrace (eventAt part) in
         let own = recordOf (tr .act i) in
         record {
-          midway = move-midway R h (U .midway) no-access M′ T′ after (rw its-move at advances);
+          midway = move-midway R h (U .midway) no-access L′ K′ T′ next (rw its-move at advances);
           none-raced = still-none rules tr (lawful (eventAt part)) (fit (eventAt part)) i (U .none-raced)
               (found-off rules tr own i (ap (λ a. onRecord own (actOf a)) no-access));
         }

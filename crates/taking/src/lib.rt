@@ -2,7 +2,8 @@
 ghost use mathlib.Core.Path.{_≡_};
 ghost use Prim.Native.Nat.{_<_};
 ghost use Rattle.jobfile.specs.Lent.{was};
-ghost use Rattle.strands.specs.Memory.{memory, tasks};
+ghost use Rattle.strands.specs.Memory.{tasks};
+ghost use Rattle.taking.specs.Buffers.{buffers};
 ghost use Rattle.taking.specs.Asking.{heldOr, heldAbove, Askable};
 ghost use Rattle.taking.specs.Turns.{Turnable, Taken};
 use jobfile::Access;
@@ -34,7 +35,7 @@ pub fn take(
     links: &mut [u16],
     places: &mut [u32],
 ) -> Turn
-    requires { ⌜ Turnable (now part) i (memory labels links) (tasks lasts joins) (now places) state ⌝ }
+    requires { ⌜ Turnable (now part) i (buffers labels links places) (tasks lasts joins) state ⌝ }
     ensures { λ r. ⌜ Taken (was part) i state lasts joins labels links places r ⌝ }
 {
     let e = jobfile::event_at(part, i);

@@ -58,7 +58,7 @@ returns-2 c =
     let tested = passed .before in
     let start = tested .before .before .before .before .before in (
       judge-run _ _ _ _ _ _ (start .pre) _ _ (tested .judge-fault .ensures .0) (passed .if1 .left) (ran .run .ensures .0),
-      leaves-run _ _ _ _ _ _ _ _ _ (start .pre) _ (ran .run .ensures .0) (ran .run .ensures .1),
+      leaves-run _ _ _ _ _ (start .pre) _ (ran .run .ensures .0) (ran .run .ensures .1),
     )
 
 pub judge-job-spec : {M : Type 1} → statement M

@@ -60,7 +60,7 @@ returns c =
     record {
       line = rw (line-is _ _ _ _ _ (start .pre .1) _ (ran .judge-job .ensures .0)) at (said .answer .ensures .0);
       fits = said .answer .ensures .1;
-      buffers = leaves-all _ _ _ _ _ (start .pre .1) _ (ran .judge-job .ensures .0) _ _ _ _ _ _ (ran .judge-job .ensures .1);
+      buffers = leaves-all _ _ _ _ _ (start .pre .1) _ (ran .judge-job .ensures .0) _ _ (ran .judge-job .ensures .1);
     }
 
 pub judged-spec : {M : Type 1} → statement M

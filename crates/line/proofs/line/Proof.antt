@@ -1,8 +1,9 @@
 -- `line` meets its contract: the text is the line, and it is delivered if it fits. Assumes nothing.
 use native.Mathlib.Omega.{arith}
 use mathlib.Core.Path.{_≡_}
-use lib.ListN.{length, take}
-use Rattle.line.specs.Line.{lineOf}
+use lib.ListN.{take}
+use Rattle.taking.specs.Buffers.{buffers}
+use Rattle.line.specs.Line.{lineWith}
 use Rattle.bytes_at.proofs.Puts.{put-counted}
 use borrow.Author.Needs.{needs}
 use Rattle.line.proofs.line.Statement.{statement}
@@ -42,7 +43,7 @@ returns c =
     let delivered = c .before .before in
     let made = delivered .before .before .before .before .before .before .before .before .before .before in
     let start = made .before .before .before .before .before .before .before .before .before .before in
-    let text : take (made .text-of .result) (made .text-of .last .0) ≡ lineOf (start .args .input .now) (length (start .args .labels .now)) (length (start .args .links .now)) (length (start .args .places .now)) =
+    let text : take (made .text-of .result) (made .text-of .last .0) ≡ lineWith (start .args .input .now) (buffers (start .args .labels) (start .args .links) (start .args .places)) =
     made .text-of .ensures .line .front in (
       record {
         answer = rw text at (delivered .deliver .ensures .0);

@@ -35,7 +35,7 @@ returns c =
     record {
       line = rw (known .1) at (said .refusal .ensures .0);
       fits = omega (arith, said .refusal .ensures .1);
-      buffers = leaves-none _ _ _ _ _ refused _ _ _;
+      buffers = leaves-none _ _ _ _ _ refused _;
     }
 
 same-length-2 : tie.Need-same-length-2

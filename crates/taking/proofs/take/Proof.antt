@@ -146,7 +146,7 @@ returns-4 c =
     let asked = read .before .before .before .before .before .pre in
     let to = sym (move .before .before .before .access-of .ensures) ∙ move .before .enum-told2 .given .1 in
     let done = c .before .before .before .before in
-    turns-moved asked _ (read .event-at .ensures) to _ (move .move-of .ensures) _ _ (done .advance .result) (done .advance .ensures)
+    turns-moved asked _ (read .event-at .ensures) to _ (move .move-of .ensures) _ _ _ (done .advance .result) (done .advance .ensures)
 
 pub take-spec : {M : Type 1} → statement M
 take-spec =
