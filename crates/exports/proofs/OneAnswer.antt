@@ -1,9 +1,18 @@
--- No second answer and no second contents of the buffers fit the contract of `rz_judge`: judging has the theorem. Assumes nothing.
-use mathlib.Core.Path.{refl, sym, _∙_}
+-- No second answer and no second contents of the buffers fit the contract of `rz_write`, or that of `rz_judge`: judging has the theorem.
+-- Assumes nothing.
+use mathlib.Core.Path.{_≡_, refl, sym, _∙_}
+use mathlib.Core.List.{List}
+use Prim.Native.Nat.{ℕ}
+use Rattle.taking.specs.Buffers.{Buffers}
 use Rattle.judging.proofs.OneAnswer.{judged-once}
-use Rattle.exports.specs.OneAnswer.{JudgedOnce}
+use Rattle.exports.specs.Gives.{WriteCallGives, JudgeCallGives}
 
-pub rz-judged-once : JudgedOnce
+pub rz-written-once : (name : List ℕ) (records : ℕ) (events out A A′ left left′ : List ℕ)
+    → WriteCallGives name records events out A left → WriteCallGives name records events out A′ left′ → (A ≡ A′) × (left ≡ left′)
+rz-written-once name records events out A A′ left left′ a b = (a .numbers ∙ sym (b .numbers), a .contents ∙ sym (b .contents))
+
+pub rz-judged-once : (file : List ℕ) (k : ℕ) (B₀ : Buffers) (A A′ : List ℕ) (B B′ : Buffers)
+    → JudgeCallGives file k B₀ A B → JudgeCallGives file k B₀ A′ B′ → (A ≡ A′) × (B ≡ B′)
 rz-judged-once file k B₀ A A′ B B′ a b =
     let once = judged-once file k B₀ _ _ B B′ (record { answer = refl; leaves = a .leaves }) (record { answer = refl; leaves = b .leaves }) in
     (a .numbers ∙ sym (b .numbers), once .1)

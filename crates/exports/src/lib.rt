@@ -4,15 +4,12 @@
 // array of the answer is a plain pointer. No call has a `requires`, and none keeps what it was lent.
 ghost use mathlib.Core.Path.{_≡_};
 ghost use Prim.Native.Nat.{_≤_};
-ghost use lib.ListN.{length};
 ghost use Rattle.jobfile.specs.Lent.{was, is};
 ghost use Rattle.jobfile.specs.File.{checkOf, eventCount};
-ghost use Rattle.writing.specs.Written.{writeOf, outAfter};
 ghost use Rattle.relation.specs.Question.{questionOf};
 ghost use Rattle.taking.specs.Buffers.{before, after};
-ghost use Rattle.judging.specs.Answers.{judgeWith};
-ghost use Rattle.judging.specs.Leaves.{Leaves};
 ghost use Rattle.exports.specs.Numbers.{readNumbers, writeNumbers, questionNumbers, judgeNumbers};
+ghost use Rattle.exports.specs.Gives.{WriteCallGives, JudgeCallGives};
 use jobfile::Checked;
 use writing::Written;
 
@@ -33,8 +30,7 @@ pub extern "C" fn rz_write(
     out: &mut [u8],
     answer: &mut [u64; 3],
 )
-    ensures { λ _. ⌜ is answer ≡ writeNumbers (writeOf (was name) records (was events) (length (was out))) ⌝ }
-    ensures { λ _. ⌜ is out ≡ outAfter (was name) records (was events) (was out) ⌝ }
+    ensures { λ _. ⌜ WriteCallGives (was name) records (was events) (was out) (is answer) (is out) ⌝ }
 {
     *answer = write_numbers(writing::write(name, records as usize, events, out));
 }
@@ -58,8 +54,7 @@ pub extern "C" fn rz_judge(
     places: &mut [u32],
     answer: &mut [u64; 9],
 )
-    ensures { λ _. ⌜ is answer ≡ judgeNumbers (judgeWith (was file) k (before labels links places)) ⌝ }
-    ensures { λ _. ⌜ Leaves (judgeWith (was file) k (before labels links places)) (was file) k (before labels links places) (after labels links places) ⌝ }
+    ensures { λ _. ⌜ JudgeCallGives (was file) k (before labels links places) (is answer) (after labels links places) ⌝ }
 {
     *answer = judge_numbers(judging::judge(file, k as usize, labels, links, places));
 }

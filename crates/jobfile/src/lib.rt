@@ -20,11 +20,10 @@ pub use refusal::Refusal;
 pub use refusal::refuse;
 pub use tasks::Traced;
 pub use tasks::trace;
-ghost use mathlib.Core.Path.{_≡_};
 ghost use Prim.Native.Nat.{_*_};
-ghost use lib.ListN.{length};
 ghost use Rattle.jobfile.specs.Lent.{was};
-ghost use Rattle.jobfile.specs.File.{checkOf, CheckFits, nameLength, eventCount};
+ghost use Rattle.jobfile.specs.File.{checkOf, nameLength, eventCount};
+ghost use Rattle.jobfile.specs.Gives.{CheckGives};
 ghost use Rattle.jobfile.specs.Part.{Part};
 
 // What an accepted file gives: where the events start, which is the name's length, how many they
@@ -43,8 +42,7 @@ pub enum Checked {
 
 // The check of a whole file: refusals 1 to 13.
 pub fn check(file: &[u8]) -> Checked
-    ensures { λ r. ⌜ r ≡ checkOf (was file) ⌝ }
-    ensures { λ r. ⌜ CheckFits r (length (was file)) ⌝ }
+    ensures { λ r. ⌜ CheckGives (was file) r ⌝ }
 {
     match trailer::read_head(file) {
         trailer::Head::Refused(k) => Checked::Refused(refuse(k, 0)),

@@ -4,8 +4,9 @@
 ghost use mathlib.Core.Path.{_≡_};
 ghost use lib.ListN.{length};
 ghost use Rattle.jobfile.specs.Lent.{was};
-ghost use Rattle.judging.specs.Answers.{judgeWith, judgeFault, judgedOf};
-ghost use Rattle.judging.specs.Leaves.{Leaves, Shows};
+ghost use Rattle.judging.specs.Answers.{judgeFault, judgedOf};
+ghost use Rattle.judging.specs.Leaves.{Shows};
+ghost use Rattle.judging.specs.Gives.{JudgeGives};
 ghost use Rattle.taking.specs.Buffers.{before, after};
 ghost use Rattle.taking.specs.Turns.{Run};
 ghost use Rattle.jobfile.specs.File.{checkOf};
@@ -51,8 +52,7 @@ pub fn judge(
     links: &mut [u16],
     places: &mut [u32],
 ) -> Answer
-    ensures { λ r. ⌜ r ≡ judgeWith (was file) k (before labels links places) ⌝ }
-    ensures { λ r. ⌜ Leaves r (was file) k (before labels links places) (after labels links places) ⌝ }
+    ensures { λ r. ⌜ JudgeGives (was file) k (before labels links places) r (after labels links places) ⌝ }
 {
     match jobfile::check(file) {
         Checked::Refused(r) => Answer::Refused(r),
@@ -71,8 +71,7 @@ pub fn judge_job(
     places: &mut [u32],
 ) -> Answer
     requires { ⌜ checkOf (now file) ≡ Accepted job ⌝ }
-    ensures { λ r. ⌜ r ≡ judgeWith (was file) k (before labels links places) ⌝ }
-    ensures { λ r. ⌜ Leaves r (was file) k (before labels links places) (after labels links places) ⌝ }
+    ensures { λ r. ⌜ JudgeGives (was file) k (before labels links places) r (after labels links places) ⌝ }
 {
     let fault = judge_fault(job, k, labels.len(), links.len(), places.len());
     if fault != 0 {

@@ -11,7 +11,8 @@ ghost use lib.Dec.{ltb};
 ghost use Rattle.jobfile.specs.Lent.{was};
 ghost use Rattle.jobfile.specs.Trace.{eventAt, moves};
 ghost use Rattle.relation.specs.Between.{Stretch};
-ghost use Rattle.relation.specs.Question.{questionOf, askedOf, compareOf, isAccess, accessAt};
+ghost use Rattle.relation.specs.Gives.{QuestionGives};
+ghost use Rattle.relation.specs.Question.{askedOf, compareOf, isAccess, accessAt};
 use between::parallel;
 use jobfile::Access;
 use jobfile::Checked;
@@ -33,7 +34,7 @@ pub enum Related {
 // The question about events i and j of a file: the check of the file, then one pass over the
 // events between the two.
 pub fn question(file: &[u8], i: usize, j: usize) -> Related
-    ensures { λ r. ⌜ r ≡ questionOf (was file) i j ⌝ }
+    ensures { λ r. ⌜ QuestionGives (was file) i j r ⌝ }
 {
     match check(file) {
         Checked::Refused(r) => Related::Refused(r),

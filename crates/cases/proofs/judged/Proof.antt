@@ -20,12 +20,12 @@ enum-known-n c = search needs
 
 array-share-prefix-file : tie.Need-array-share-prefix-file
 array-share-prefix-file c =
-    let f = rw (c .before .n .given .1) at (c .before .before .before .before .write .ensures .1 .1) in
+    let f = rw (c .before .n .given .1) at (c .before .before .before .before .write .ensures .fits) in
     omega arith
 
 slice-aggregate-judge : tie.Need-slice-aggregate-judge
 slice-aggregate-judge c =
-    let f = rw (c .before .before .n .given .1) at (c .before .before .before .before .before .write .ensures .1 .1) in
+    let f = rw (c .before .before .n .given .1) at (c .before .before .before .before .before .write .ensures .fits) in
     sym (length-take-le (c .before .before .n .given .0 .0) (c .before .before .before .before .before .write .last .1 .1 .1 .0) (omega arith))
 
 slice-aggregate-judge-2 : tie.Need-slice-aggregate-judge-2

@@ -22,7 +22,7 @@ same-length-3 c = search needs
 returns : tie.Need-returns
 returns c =
     let j = c .before .before .before .before .before .before .before .judge in
-    (rw (j .ensures .0) at (c .judge-numbers .ensures), rw (j .ensures .0) at (j .ensures .1))
+    record { numbers = rw (j .ensures .answer) at (c .judge-numbers .ensures); leaves = rw (j .ensures .answer) at (j .ensures .leaves) }
 
 pub rz-judge-spec : {M : Type 1} → statement M
 rz-judge-spec =

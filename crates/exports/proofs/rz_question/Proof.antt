@@ -13,7 +13,7 @@ question-numbers-requires : tie.Need-question-numbers-requires
 question-numbers-requires c κs = search needs
 
 returns : tie.Need-returns
-returns c = c .question-numbers .ensures ∙ ap questionNumbers (c .before .question .ensures)
+returns c = c .question-numbers .ensures ∙ ap questionNumbers (c .before .question .ensures .answer)
 
 pub rz-question-spec : {M : Type 1} → statement M
 rz-question-spec = tie.close (tie.spec question-requires question-numbers-requires returns)

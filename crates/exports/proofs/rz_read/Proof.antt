@@ -10,10 +10,10 @@ check-requires : tie.Need-check-requires
 check-requires c κs = search needs
 
 read-numbers-requires : tie.Need-read-numbers-requires
-read-numbers-requires c κs = few-events (c .check .result) _ (c .check .ensures .1)
+read-numbers-requires c κs = few-events (c .check .result) _ (c .check .ensures .fits)
 
 returns : tie.Need-returns
-returns c = c .read-numbers .ensures ∙ ap readNumbers (c .before .check .ensures .0)
+returns c = c .read-numbers .ensures ∙ ap readNumbers (c .before .check .ensures .answer)
 
 pub rz-read-spec : {M : Type 1} → statement M
 rz-read-spec = tie.close (tie.spec check-requires read-numbers-requires returns)

@@ -16,7 +16,7 @@ same-length c = search needs
 returns : tie.Need-returns
 returns c =
     let w = c .before .before .before .write in
-    (rw (w .ensures .0) at (c .write-numbers .ensures), w .ensures .1 .0)
+    record { numbers = rw (w .ensures .answer) at (c .write-numbers .ensures); contents = w .ensures .contents }
 
 pub rz-write-spec : {M : Type 1} → statement M
 rz-write-spec = tie.close (tie.spec write-requires write-numbers-requires same-length returns)

@@ -17,7 +17,10 @@ returns : tie.Need-returns
 returns c =
     let tested = c .before .before in
     let start = tested .before .before .before .before .before in
-    (rw (c .refuse .ensures) (judge-refused _ _ _ _ _ _ (start .pre) _ (tested .judge-fault .ensures .0) (c .before .if1 .taken)), search needs)
+    record {
+      answer = rw (c .refuse .ensures) (judge-refused _ _ _ _ _ _ (start .pre) _ (tested .judge-fault .ensures .0) (c .before .if1 .taken));
+      leaves = search needs;
+    }
 
 mul-end : tie.Need-mul-end
 mul-end c = let start = c .before .before .before .before .before .before .before in omega (arith, accepted-fits _ _ (start .pre))
@@ -56,10 +59,11 @@ returns-2 c =
     let ran = c .before .before .before .before .before .before in
     let passed = ran .before .before .before .before .before .before in
     let tested = passed .before in
-    let start = tested .before .before .before .before .before in (
-      judge-run _ _ _ _ _ _ (start .pre) _ _ (tested .judge-fault .ensures .0) (passed .if1 .left) (ran .run .ensures .0),
-      leaves-run _ _ _ _ _ (start .pre) _ (ran .run .ensures .0) (ran .run .ensures .1),
-    )
+    let start = tested .before .before .before .before .before in
+    record {
+      answer = judge-run _ _ _ _ _ _ (start .pre) _ _ (tested .judge-fault .ensures .0) (passed .if1 .left) (ran .run .ensures .0);
+      leaves = leaves-run _ _ _ _ _ (start .pre) _ (ran .run .ensures .0) (ran .run .ensures .1);
+    }
 
 pub judge-job-spec : {M : Type 1} → statement M
 judge-job-spec =

@@ -37,7 +37,7 @@ answer-requires c κs =
     let ran = c .before .before .before .before .before .before .before in
     let start = ran .before .before .before .before .before .before .before .before .before .before .before .before in (
       omega arith,
-      (start-short _ _ (start .pre .1), pair-there _ _ _ _ _ (start .pre .1) _ (ran .judge-job .ensures .0)),
+      (start-short _ _ (start .pre .1), pair-there _ _ _ _ _ (start .pre .1) _ (ran .judge-job .ensures .answer)),
     )
 
 same-length : tie.Need-same-length
@@ -58,9 +58,9 @@ returns c =
     let ran = said .before .before .before .before .before .before .before .before in
     let start = ran .before .before .before .before .before .before .before .before .before .before .before .before in
     record {
-      line = rw (line-is _ _ _ _ _ (start .pre .1) _ (ran .judge-job .ensures .0)) at (said .answer .ensures .0);
+      line = rw (line-is _ _ _ _ _ (start .pre .1) _ (ran .judge-job .ensures .answer)) at (said .answer .ensures .0);
       fits = said .answer .ensures .1;
-      buffers = leaves-all _ _ _ _ _ (start .pre .1) _ (ran .judge-job .ensures .0) _ _ (ran .judge-job .ensures .1);
+      buffers = leaves-all _ _ _ _ _ (start .pre .1) _ (ran .judge-job .ensures .answer) _ _ (ran .judge-job .ensures .leaves);
     }
 
 pub judged-spec : {M : Type 1} → statement M

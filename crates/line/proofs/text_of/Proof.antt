@@ -21,7 +21,7 @@ enum-known-job c = search needs
 judged-requires : tie.Need-judged-requires
 judged-requires c κs =
     let told = c .before .before .before .before .before in
-    (omega arith, sym (told .before .before .check .ensures .0) ∙ told .job .given .1)
+    (omega arith, sym (told .before .before .check .ensures .answer) ∙ told .job .given .1)
 
 same-length : tie.Need-same-length
 same-length c = search needs
@@ -30,7 +30,7 @@ returns : tie.Need-returns
 returns c =
     let said = c .before .before in
     let told = said .before .before .before in
-    let refused = sym (told .before .before .check .ensures .0) ∙ told .r .given .1 in
+    let refused = sym (told .before .before .check .ensures .answer) ∙ told .r .given .1 in
     let known = refused-line _ _ _ _ _ refused in
     record {
       line = rw (known .1) at (said .refusal .ensures .0);

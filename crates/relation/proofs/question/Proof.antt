@@ -15,7 +15,7 @@ use Rattle.relation.proofs.question.Tie as tie
 -- the file's bounds, where it is accepted
 fits : (c : tie.After-struct-known)
     → CheckFits (Accepted (c .before .before .job .given .0 .0)) (length (c .before .before .before .before .before .before .args .file .now))
-fits c = rw (c .before .before .job .given .1) at (c .before .before .before .before .check .ensures .1)
+fits c = rw (c .before .before .job .given .1) at (c .before .before .before .before .check .ensures .fits)
 
 check-requires : tie.Need-check-requires
 check-requires c κs = search needs
@@ -46,18 +46,21 @@ asked-requires c κs =
     let told = c .before .before .before in
     let job = told .job .given .0 .0 in
     rw (add-sub-cancel-left (job .start) (4 * job .events))
-    (stretch-file (told .before .before .before .before .args .file .now) job (sym (told .before .before .check .ensures .0) ∙ told .job .given .1))
+    (stretch-file (told .before .before .before .before .args .file .now) job (sym (told .before .before .check .ensures .answer) ∙ told .job .given .1))
 
 returns : tie.Need-returns
 returns c =
-    sym (question-unread _ _ _ (c .before .r .given .0 .0) (sym (c .before .before .before .check .ensures .0) ∙ c .before .r .given .1))
+    let told = c .before in
+    record { answer = sym (question-unread _ _ _ (told .r .given .0 .0) (sym (told .before .before .check .ensures .answer) ∙ told .r .given .1)) }
 
 returns-2 : tie.Need-returns-2
 returns-2 c =
     let told = c .before .before .before .before in
     let job = told .job .given .0 .0 in
-    (rw (add-sub-cancel-left (job .start) (4 * job .events)) at (c .asked .ensures))
-    ∙ sym (question-asked _ job (sym (told .before .before .check .ensures .0) ∙ told .job .given .1) _ _)
+    record {
+      answer = (rw (add-sub-cancel-left (job .start) (4 * job .events)) at (c .asked .ensures))
+          ∙ sym (question-asked _ job (sym (told .before .before .check .ensures .answer) ∙ told .job .given .1) _ _);
+    }
 
 pub question-spec : {M : Type 1} → statement M
 question-spec =
