@@ -1,0 +1,102 @@
+-- What a call of `judge` that is taken answers: the verdict of the events, told in the paper's numbers. Assumes nothing.
+use mathlib.Core.Path.{_≡_, refl, sym, _∙_, subst}
+use mathlib.Core.List.{List}
+use mathlib.Core.Option.{Option, none, some, Option·getD}
+use Prim.Native.Nat.{ℕ, _≤_, _<_}
+use native.Mathlib.Omega.{arith}
+use borrow.Author.Tests.{le-ltb}
+use Rattle.jobfile.specs.Trace.{begunAt}
+use Rattle.jobfile.specs.File.{eventPart}
+use Rattle.jobfile.specs.Accepted.{AcceptedTrace}
+use Rattle.jobfile.specs.declared.event.Event.{Event}
+use Rattle.jobfile.proofs.Checking.{accepted-part}
+use Rattle.relation.specs.Parallel.{Rooted}
+use Rattle.races.specs.Race.{Race as IsRace}
+use Rattle.races.specs.Records.{Verdict, clean, race, secondIn, verdictAt, verdictIn, stopIn}
+use Rattle.races.specs.Mark.{rules, eventTrace}
+use Rattle.races.specs.Named.{Named, verdict, stopAt}
+use Rattle.races.proofs.Named.{verdict-race, verdict-clean, named-only}
+use Rattle.taking.specs.Buffers.{Buffers}
+use Rattle.judging.specs.declared.Answer.{Answer}
+use Rattle.judging.specs.Answers.{answerWith, judgedOf, judgeFault, judgeOf, judgeWith}
+use Rattle.judging.specs.Gives.{JudgeGives}
+use Rattle.judging.specs.Terms.{eventsIn, movesIn, Judgeable, Names, SaysClean, shownAt}
+use Rattle.judging.proofs.Room.{room}
+
+-- the verdict behind an answer
+named-verdict : (v : Verdict) (a b c i j q : ℕ) → Names (answerWith v a b c) i j q → v ≡ race i j q
+named-verdict clean a b c i j q N = absurd (omega (arith, N .raced))
+named-verdict (race x y z) a b c i j q N = rw (N .first, N .second, N .number)
+
+clean-verdict : (v : Verdict) (a b c : ℕ) → SaysClean (answerWith v a b c) → v ≡ clean
+clean-verdict clean a b c C = refl
+clean-verdict (race x y z) a b c C = absurd (omega (arith, C .raced))
+
+verdict-names : (v : Verdict) (a b c i j q : ℕ) → v ≡ race i j q → Names (answerWith v a b c) i j q
+verdict-names v a b c i j q e = rw e (record { raced = refl; first = refl; second = refl; number = refl })
+
+verdict-says-clean : (v : Verdict) (a b c : ℕ) → v ≡ clean → SaysClean (answerWith v a b c)
+verdict-says-clean v a b c e = rw e (record { taken = refl; raced = refl; first = refl; second = refl; number = refl })
+
+module _ (ev : ℕ → Event) where
+  -- where judging stops is what the answer shows
+  stop-of : (k a b c : ℕ) (o : Option ℕ) → Option·getD o k ≡ shownAt k (answerWith (verdictAt rules (eventTrace ev) o) a b c)
+  stop-of k a b c none = refl
+  stop-of k a b c (some j) = refl
+
+  pub stop-shown : (k : ℕ) → stopAt ev k ≡ shownAt k (judgedOf ev k)
+  unfolding judgedOf verdictIn stopIn
+  stop-shown k = stop-of k _ _ _ (secondIn rules (eventTrace ev) k)
+
+module _ (file : List ℕ) (k : ℕ) (B₀ : Buffers) (T : Judgeable file k B₀) where
+  accepted-events : AcceptedTrace (T .job .records) (T .job .events) (T .job .strands) (eventPart file)
+  accepted-events = accepted-part file (T .job) (T .accepted)
+
+  pub rooted : (n : ℕ) → n ≤ k → Rooted (movesIn file) n
+  rooted n h m l = accepted-events .rooted m (omega (arith, T .within))
+
+  pub few : (n : ℕ) → n ≤ k → begunAt (movesIn file) n ≤ 4096
+  few n h = accepted-events .few n (omega (arith, T .within))
+
+  no-fault : (labels links places : ℕ) → 8192 ≤ labels → 16384 ≤ links → 16384 ≤ places
+      → judgeFault (T .job .events) (T .job .strands) k labels links places ≡ 0
+  unfolding judgeFault
+  no-fault labels links places f g h =
+      let s : T .job .strands ≤ 4096 = omega (arith, accepted-events .few (T .job .events) (omega arith), accepted-events .all) in
+      simp (le-ltb (T .job .events) k (T .within), le-ltb labels 8192 f, le-ltb links 16384 g, le-ltb places 16384 h, room (T .job .strands) s)
+
+  -- so the answer is that of the events
+  judged : judgeWith file k B₀ ≡ judgedOf (eventsIn file) k
+  unfolding judgeOf
+  judged = rw (T .accepted, no-fault _ _ _ (T .labels-fit) (T .links-fit) (T .places-fit))
+
+  -- the rules name one pair
+  pub one-pair : (i j q i′ j′ q′ : ℕ) → Named (eventsIn file) k i j q → Named (eventsIn file) k i′ j′ q′ → (i ≡ i′) × (j ≡ j′) × (q ≡ q′)
+  one-pair i j q i′ j′ q′ = named-only (eventsIn file) k i j q i′ j′ q′ (rooted k (omega arith))
+
+  module _ (r : Answer) (B : Buffers) (F : JudgeGives file k B₀ r B) where
+    pub fits-judged : r ≡ judgedOf (eventsIn file) k
+    fits-judged = F .answer ∙ judged
+
+    -- "A race is named exactly if there is one, and it is the one the rules name."
+    pub race-named : (i j q : ℕ) → Names r i j q → Named (eventsIn file) k i j q
+    unfolding judgedOf
+    race-named i j q N =
+        verdict-race (eventsIn file) k i j q (rooted k (omega arith)) .0
+        (named-verdict (verdict (eventsIn file) k) _ _ _ i j q (subst (λ a. Names a i j q) fits-judged N))
+
+    pub named-answered : (i j q : ℕ) → Named (eventsIn file) k i j q → Names r i j q
+    unfolding judgedOf
+    named-answered i j q N =
+        rw fits-judged (verdict-names (verdict (eventsIn file) k) _ _ _ i j q (verdict-race (eventsIn file) k i j q (rooted k (omega arith)) .1 N))
+
+    pub clean-free : SaysClean r → (i j : ℕ) → j < k → ¬ IsRace (eventsIn file) i j
+    unfolding judgedOf
+    clean-free C =
+        verdict-clean (eventsIn file) k (rooted k (omega arith)) .0
+        (clean-verdict (verdict (eventsIn file) k) _ _ _ (subst SaysClean fits-judged C))
+
+    pub free-clean : ((i j : ℕ) → j < k → ¬ IsRace (eventsIn file) i j) → SaysClean r
+    unfolding judgedOf
+    free-clean free =
+        rw fits-judged (verdict-says-clean (verdict (eventsIn file) k) _ _ _ (verdict-clean (eventsIn file) k (rooted k (omega arith)) .1 free))
