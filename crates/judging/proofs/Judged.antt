@@ -1,26 +1,23 @@
 -- What a call of `judge` that is taken answers: the verdict of the events, told in the paper's numbers. Assumes nothing.
 use mathlib.Core.Path.{_≡_, refl, sym, _∙_, subst}
 use mathlib.Core.List.{List}
-use mathlib.Core.Option.{Option, none, some, Option·getD}
 use Prim.Native.Nat.{ℕ, _≤_, _<_}
 use native.Mathlib.Omega.{arith}
 use borrow.Author.Tests.{le-ltb}
 use Rattle.jobfile.specs.Trace.{begunAt}
 use Rattle.jobfile.specs.File.{eventPart}
 use Rattle.jobfile.specs.Accepted.{AcceptedTrace}
-use Rattle.jobfile.specs.declared.event.Event.{Event}
 use Rattle.jobfile.proofs.Checking.{accepted-part}
 use Rattle.relation.specs.Parallel.{Rooted}
 use Rattle.races.specs.Race.{Race as IsRace}
-use Rattle.races.specs.Records.{Verdict, clean, race, secondIn, verdictAt, verdictIn, stopIn}
-use Rattle.races.specs.Mark.{rules, eventTrace}
-use Rattle.races.specs.Named.{Named, verdict, stopAt}
+use Rattle.races.specs.Records.{Verdict, clean, race}
+use Rattle.races.specs.Named.{Named, verdict}
 use Rattle.races.proofs.Named.{verdict-race, verdict-clean, named-only}
 use Rattle.taking.specs.Buffers.{Buffers}
 use Rattle.judging.specs.declared.Answer.{Answer}
 use Rattle.judging.specs.Answers.{answerWith, judgedOf, judgeFault, judgeOf, judgeWith}
 use Rattle.judging.specs.Gives.{JudgeGives}
-use Rattle.judging.specs.Terms.{eventsIn, movesIn, Judgeable, Names, SaysClean, shownAt}
+use Rattle.judging.specs.Terms.{eventsIn, movesIn, Judgeable, Names, SaysClean}
 use Rattle.judging.proofs.Room.{room}
 
 -- the verdict behind an answer
@@ -37,16 +34,6 @@ verdict-names v a b c i j q e = rw e (record { raced = refl; first = refl; secon
 
 verdict-says-clean : (v : Verdict) (a b c : ℕ) → v ≡ clean → SaysClean (answerWith v a b c)
 verdict-says-clean v a b c e = rw e (record { taken = refl; raced = refl; first = refl; second = refl; number = refl })
-
-module _ (ev : ℕ → Event) where
-  -- where judging stops is what the answer shows
-  stop-of : (k a b c : ℕ) (o : Option ℕ) → Option·getD o k ≡ shownAt k (answerWith (verdictAt rules (eventTrace ev) o) a b c)
-  stop-of k a b c none = refl
-  stop-of k a b c (some j) = refl
-
-  pub stop-shown : (k : ℕ) → stopAt ev k ≡ shownAt k (judgedOf ev k)
-  unfolding judgedOf verdictIn stopIn
-  stop-shown k = stop-of k _ _ _ (secondIn rules (eventTrace ev) k)
 
 module _ (file : List ℕ) (k : ℕ) (B₀ : Buffers) (T : Judgeable file k B₀) where
   accepted-events : AcceptedTrace (T .job .records) (T .job .events) (T .job .strands) (eventPart file)

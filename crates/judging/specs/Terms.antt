@@ -14,7 +14,6 @@ use Rattle.orders.specs.Order.{Order, labelIn, nextIn, backIn, orderOf, backOrd
 use Rattle.orders.specs.Model.{lastOf}
 use Rattle.taking.specs.Buffers.{Buffers}
 use Rattle.judging.specs.declared.Answer.{Answer}
-use Rattle.judging.specs.declared.Answer.the-variants.{Clean, Race, Refused}
 use Rattle.judging.specs.Answers.{numbersOf}
 
 -- the events of a file
@@ -48,12 +47,6 @@ pub record SaysClean (r : Answer) : Type 0 where
   pub first : numbersOf r .first ≡ 0
   pub second : numbersOf r .second ≡ 0
   pub number : numbersOf r .number ≡ 0
-
--- "The buffers show the state before the racing event, or after k events.": just before which event
-abbrev pub shownAt : ℕ → Answer → ℕ
-shownAt k (Clean s e h) = k
-shownAt k (Race f j q s e h) = j
-shownAt k (Refused r) = 0
 
 -- the links from strand 0 on are one chain of exactly n strands, the same backwards, labels rising
 pub record OneChain (n : ℕ) (L K : List ℕ) (lo ln : ℕ) : Type 0 where
