@@ -6,3 +6,4 @@ pub mod Told
 pub mod Accepted
 pub mod Accesses
 pub mod Limits
+pub mod Promise

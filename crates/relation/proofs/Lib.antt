@@ -9,3 +9,4 @@ pub mod Answers
 pub mod Files
 pub mod Meaning
 pub mod Cases
+pub mod Promise
