@@ -46,14 +46,22 @@ fn check_trailer(file: &[u8]) -> Result<Accepted, Refusal> {
     let number =
         |at: usize| u32::from_le_bytes([trailer[at], trailer[at + 1], trailer[at + 2], trailer[at + 3]]) as usize;
     let (distance, count, records) = (number(0), number(4), number(8));
-    match () {
-        _ if trailer[12..] != *b"VJT1" => refused(2),
-        _ if records == 0 || records > 4096 => refused(3),
-        _ if count > 1_000_000 => refused(4),
-        _ if distance != 4 * count => refused(5),
-        _ if distance > before.len() => refused(6),
-        _ => Ok(Accepted { start: before.len() - distance, count, records }),
+    if trailer[12..] != *b"VJT1" {
+        return refused(2);
     }
+    if records == 0 || records > 4096 {
+        return refused(3);
+    }
+    if count > 1_000_000 {
+        return refused(4);
+    }
+    if distance != 4 * count {
+        return refused(5);
+    }
+    if distance > before.len() {
+        return refused(6);
+    }
+    Ok(Accepted { start: before.len() - distance, count, records })
 }
 
 fn check_events(events: &[[u8; 4]], records: usize) -> Result<(), Refusal> {

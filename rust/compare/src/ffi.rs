@@ -34,10 +34,12 @@ pub struct Library;
 
 const CANARY: u64 = 0xC0FF_EE00_C0FF_EE00;
 
-// Each call lends slices as pointer and length, and an array of the answer's length; the library keeps none of them.
+// What the header asks of the blocks holds of every call below: a slice's pointer is aligned and not null, and its length is that of the
+// memory behind it; a block that is written is borrowed by `&mut`, so no other block overlaps it; the library keeps none of them.
 impl Calls for Library {
     fn read(&self, file: &[u8]) -> [u64; 6] {
         let mut answer = [CANARY; 6];
+        // SAFETY: `file` is a slice, and `answer` an array of the 6 numbers that the call stores.
         unsafe { rz_read(file.as_ptr(), file.len(), &mut answer) };
         answer
     }
@@ -46,18 +48,22 @@ impl Calls for Library {
         let mut answer = [CANARY; 3];
         let (out_at, out_len) = (out.as_mut_ptr(), out.len());
         let (name_at, events_at) = (name.as_ptr(), events.as_ptr());
+        // SAFETY: `name`, `events` and `out` are slices, of which only `out` is written; `answer` has the 3 numbers that the call stores.
         unsafe { rz_write(name_at, name.len(), records, events_at, events.len(), out_at, out_len, &mut answer) };
         answer
     }
 
     fn question(&self, file: &[u8], i: u64, j: u64) -> [u64; 3] {
         let mut answer = [CANARY; 3];
+        // SAFETY: `file` is a slice, and `answer` an array of the 3 numbers that the call stores.
         unsafe { rz_question(file.as_ptr(), file.len(), i, j, &mut answer) };
         answer
     }
 
     fn judge(&self, file: &[u8], k: u64, labels: &mut [u64], links: &mut [u16], places: &mut [u32]) -> [u64; 9] {
         let mut answer = [CANARY; 9];
+        // SAFETY: `file` is a slice that is read; the three buffers are slices that are written, each with its own length, in elements;
+        // `answer` is an array of the 9 numbers that the call stores.
         unsafe {
             rz_judge(
                 file.as_ptr(),

@@ -17,6 +17,8 @@ impl fmt::Display for Error {
     }
 }
 
+impl std::error::Error for Error {}
+
 /// A word: a run of letters, a colon, or a quoted text with its quotes.
 #[derive(Clone, Debug)]
 pub struct Word<'a> {
