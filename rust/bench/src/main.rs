@@ -1,6 +1,7 @@
 //! Times judging and the check by the three Rust programs and, with the feature `rattle`, by the library, and prints three tables:
 //! judging, the check alone, and how time grows with the number of events.
 
+use arguments::{Arguments, Wrong};
 use bench::jobs::{growth, judging, orders, Row};
 use bench::sides::{self, events_of, Buffers};
 use bench::turns::{best, head, line};
@@ -25,7 +26,11 @@ struct Options {
 }
 
 fn main() -> ExitCode {
-    match options(std::env::args().skip(1)).and_then(|options| run(&options)) {
+    let options = match arguments::read("bench", USAGE, options) {
+        Ok(options) => options,
+        Err(code) => return code,
+    };
+    match run(&options) {
         Ok(()) => ExitCode::SUCCESS,
         Err(wrong) => {
             eprintln!("bench: {wrong}");
@@ -34,19 +39,15 @@ fn main() -> ExitCode {
     }
 }
 
-fn options(mut arguments: impl Iterator<Item = String>) -> Result<Options, String> {
+fn options(arguments: &mut Arguments) -> Result<Options, Wrong> {
     let mut options = Options { seed: 1, jobs: 1000, rounds: 9 };
-    while let Some(flag) = arguments.next() {
-        let mut number = || {
-            let value = arguments.next().ok_or(format!("{flag} needs a value\n{USAGE}"))?;
-            value.parse().map_err(|_| format!("{flag} {value}: no whole number"))
-        };
-        match flag.as_str() {
-            "--seed" => options.seed = number()?,
-            "--jobs" => options.jobs = number()?,
-            "--rounds" => options.rounds = number()?,
+    while let Some(option) = arguments.next() {
+        match option.as_str() {
+            "--seed" => options.seed = arguments.number(&option)?,
+            "--jobs" => options.jobs = arguments.number(&option)?,
+            "--rounds" => options.rounds = arguments.number(&option)?,
             "--short" => (options.jobs, options.rounds) = (150, 9),
-            _ => return Err(format!("{flag}: no such flag\n{USAGE}")),
+            _ => return Err(Wrong::unknown(&option)),
         }
     }
     Ok(options)

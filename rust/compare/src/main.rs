@@ -1,5 +1,6 @@
 //! The comparison from the command line; the seed and the count say which files, the tally at the end says what they were.
 
+use arguments::{Arguments, Wrong};
 use compare::calls::{Calls, Second};
 use compare::differ::Sides;
 use compare::files::{generated, limits};
@@ -26,8 +27,11 @@ struct Options {
 }
 
 fn main() -> ExitCode {
-    let arguments: Vec<String> = std::env::args().skip(1).collect();
-    match options(&arguments).and_then(|options| run(&options)) {
+    let options = match arguments::read("compare", USAGE, options) {
+        Ok(options) => options,
+        Err(code) => return code,
+    };
+    match run(&options) {
         Ok(true) => ExitCode::SUCCESS,
         Ok(false) => ExitCode::FAILURE,
         Err(wrong) => {
@@ -37,18 +41,19 @@ fn main() -> ExitCode {
     }
 }
 
-fn options(arguments: &[String]) -> Result<Options, String> {
+fn options(arguments: &mut Arguments) -> Result<Options, Wrong> {
     let mut options = Options { seed: 1, first: 0, count: 2000, judge: None };
-    for pair in arguments.chunks(2) {
-        let [flag, value] = pair else { return Err(format!("{} needs a value\n{USAGE}", pair[0])) };
-        let number = || value.parse::<u64>().map_err(|_| format!("{flag} {value}: no whole number"));
-        match flag.as_str() {
-            "--seed" => options.seed = number()?,
-            "--first" => options.first = number()?,
-            "--count" => options.count = number()?,
-            "--judge" => options.judge = Some(PathBuf::from(value)),
-            _ => return Err(format!("{flag}: no such flag\n{USAGE}")),
+    while let Some(option) = arguments.next() {
+        match option.as_str() {
+            "--seed" => options.seed = arguments.number(&option)?,
+            "--first" => options.first = arguments.number(&option)?,
+            "--count" => options.count = arguments.number(&option)?,
+            "--judge" => options.judge = Some(PathBuf::from(arguments.value(&option)?)),
+            _ => return Err(Wrong::unknown(&option)),
         }
+    }
+    if library().is_none() && options.judge.is_none() {
+        return Err(Wrong::new("nothing to compare with"));
     }
     Ok(options)
 }
@@ -65,12 +70,8 @@ fn library() -> Option<&'static dyn Calls> {
 
 /// Compares all the files, and says whether nothing differed.
 fn run(options: &Options) -> Result<bool, String> {
-    let library = library();
-    if library.is_none() && options.judge.is_none() {
-        return Err(format!("nothing to compare with\n{USAGE}"));
-    }
     println!("seed {} first {} count {}", options.seed, options.first, options.count);
-    let mut compared = Compared { options, library, tally: Tally::default() };
+    let mut compared = Compared { options, library: library(), tally: Tally::default() };
     for (number, (what, file)) in limits().into_iter().enumerate() {
         if !compared.agree(&format!("limit `{what}`"), number as u64, &file)? {
             return Ok(false);
