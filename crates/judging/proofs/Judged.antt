@@ -11,7 +11,8 @@ use Rattle.jobfile.proofs.Checking.{accepted-part}
 use Rattle.relation.specs.Parallel.{Rooted}
 use Rattle.races.specs.Race.{Race as IsRace}
 use Rattle.races.specs.Records.{Verdict, clean, race}
-use Rattle.races.specs.Named.{Named, verdict}
+use Rattle.races.specs.Named.{Named}
+use Rattle.races.specs.Verdict.{verdict}
 use Rattle.races.proofs.Named.{verdict-race, verdict-clean, named-only}
 use Rattle.taking.specs.Buffers.{Buffers}
 use Rattle.judging.specs.declared.Answer.{Answer}

@@ -13,7 +13,7 @@ use Rattle.strands.specs.declared.Now.{Now}
 use Rattle.races.specs.Records.{Verdict, clean, race, secondIn}
 use Rattle.races.specs.Entries.{Empty}
 use Rattle.races.specs.Mark.{rules, layout, eventTrace}
-use Rattle.races.specs.Named.{verdict, stopAt}
+use Rattle.races.specs.Verdict.{verdict, stopAt}
 use Rattle.races.proofs.Shown.{shown-start}
 use Rattle.races.proofs.OneRace.{none-second, clean-all}
 use Rattle.judging.specs.declared.Answer.the-variants.{Clean, Race}

@@ -12,7 +12,7 @@ ghost use Rattle.taking.specs.Turns.{Run};
 ghost use Rattle.jobfile.specs.File.{checkOf};
 ghost use Rattle.jobfile.specs.Trace.{eventAt};
 ghost use Rattle.jobfile.specs.declared.Checked.the-variants.{Accepted};
-ghost use Rattle.races.specs.Named.{stopAt};
+ghost use Rattle.races.specs.Verdict.{stopAt};
 ghost use Prim.Native.Nat.{_≤_};
 use jobfile::Checked;
 use jobfile::Job;

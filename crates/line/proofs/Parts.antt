@@ -18,7 +18,7 @@ use Rattle.jobfile.specs.declared.Checked.{Checked}
 use Rattle.jobfile.specs.declared.Checked.the-variants.{Accepted, Refused as Unread}
 use Rattle.jobfile.proofs.Checking.{accepted-fits, accepted}
 use Rattle.races.specs.Records.{Verdict, clean, race}
-use Rattle.races.specs.Named.{verdict}
+use Rattle.races.specs.Verdict.{verdict}
 use Rattle.races.proofs.Named.{verdict-race}
 use Rattle.judging.specs.Answers.{answerWith, judgedOf, judgeFault, afterCheck, judgeOf}
 use Rattle.judging.specs.Leaves.{Leaves}

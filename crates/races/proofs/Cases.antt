@@ -14,7 +14,7 @@ use Rattle.races.specs.Trace.{recordOf}
 use Rattle.races.specs.Places.{heldOf, firstOf, found}
 use Rattle.races.specs.Records.{pair, Verdict, clean, race, races, raced, pairOf, racedAny, verdictAt, verdictIn}
 use Rattle.races.specs.Mark.{actOf, rules, eventTrace}
-use Rattle.races.specs.Named.{verdict}
+use Rattle.races.specs.Verdict.{verdict}
 
 -- Small jobs that a slip in a rule would answer otherwise, judged by trying every pair and by asking the two places.
 abbrev byPairs : List Event → Verdict

@@ -9,5 +9,7 @@ pub mod Accesses
 pub mod Shown
 pub mod Emptied
 pub mod Mark
+pub mod Events
+pub mod LastAndStanding
 pub mod Named
 pub mod Cases

@@ -6,5 +6,6 @@ pub mod Records
 pub mod Entries
 pub mod Shown
 pub mod Mark
+pub mod Verdict
 pub mod Race
 pub mod Named

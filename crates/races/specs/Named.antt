@@ -1,33 +1,38 @@
--- "Which is named", in 01's words, and what judging the first k events of a trace answers: clean, or that race.
+-- "Which is named", in 01's words, by the definition of parallel alone.
 use mathlib.Core.Path.{_≡_}
-use mathlib.Core.Logic.{_⊎_}
-use mathlib.Core.Option.{Option, some}
-use Prim.Native.Nat.{ℕ, _<_}
+use mathlib.Core.Logic.{_⊎_, _≢_}
+use Prim.Native.Nat.{ℕ, suc, _<_}
+use Rattle.jobfile.specs.Events.{accessOf}
 use Rattle.jobfile.specs.Trace.{moves}
 use Rattle.jobfile.specs.declared.event.Event.{Event}
 use Rattle.jobfile.specs.declared.event.Kind.the-variants.{Write, Read}
-use Rattle.relation.specs.Parallel.{Parallel}
-use Rattle.races.specs.Places.{held}
-use Rattle.races.specs.Records.{Verdict, verdictIn, stopIn}
-use Rattle.races.specs.Mark.{rank, rules, eventTrace}
+use Rattle.jobfile.specs.declared.event.Access.the-variants.{To}
+use Rattle.relation.specs.Parallel.{Parallel, Before}
 use Rattle.races.specs.Race.{Race}
 
 module _ (ev : ℕ → Event) where
-  -- the places of record r just before event n: "the last earlier write of the record", and "the standing read"
-  abbrev pub lastWrite : ℕ → ℕ → Option ℕ
-  lastWrite r n = held rules (eventTrace ev) r (rank Write) n
+  -- event w is "the last earlier write of the record" r, just before event n
+  pub record LastWrite (r n w : ℕ) : Type 0 where
+    pub earlier : w < n
+    pub write : accessOf (ev w) ≡ To Write r
+    pub last : (m : ℕ) → w < m → m < n → accessOf (ev m) ≢ To Write r
 
-  abbrev pub standing : ℕ → ℕ → Option ℕ
-  standing r n = held rules (eventTrace ev) r (rank Read) n
+  -- Standing r n s: event s is "the standing read" of record r, just before event n
+  pub data Standing (r : ℕ) : ℕ → ℕ → Type 0 where
+    -- "The first read of a record stands;"
+    first-read : {n : ℕ} → accessOf (ev n) ≡ To Read r → ((m : ℕ) → m < n → accessOf (ev m) ≢ To Read r) → Standing r (suc n) n
+    -- "a later read takes its place exactly if the standing one is before it."
+    takes-place : {n s : ℕ} → Standing r n s → (accessOf (ev n) ≡ To Read r) × Before (moves ev) s n → Standing r (suc n) n
+    keeps-place : {n s : ℕ} → Standing r n s → ¬ ((accessOf (ev n) ≡ To Read r) × Before (moves ev) s n) → Standing r (suc n) s
 
   -- "The first is the last earlier write of the record if that is parallel to the second; otherwise the standing read.": event i is
   -- the first that goes with the second j on record r
   abbrev pub First : ℕ → ℕ → ℕ → Type 0
   First i j r =
-      ((lastWrite r j ≡ some i) × Parallel (moves ev) i j)
-      ⊎ (((w : ℕ) → lastWrite r j ≡ some w → ¬ Parallel (moves ev) w j) × (standing r j ≡ some i))
+      (LastWrite r j i × Parallel (moves ev) i j)
+      ⊎ (((w : ℕ) → LastWrite r j w → ¬ Parallel (moves ev) w j) × Standing r j i)
 
-  -- by the definition alone: event j is the second and event i the first, on record r, within the first k events
+  -- event j is the second and event i the first, on record r, within the first k events
   pub record Named (k i j r : ℕ) : Type 0 where
     pub within : j < k
     pub is-race : Race ev i j
@@ -35,10 +40,3 @@ module _ (ev : ℕ → Event) where
     -- "The second is the earliest access that races with any earlier one."
     pub earliest : (m n : ℕ) → n < j → ¬ Race ev m n
     pub first : First i j r
-
-  -- the verdict of the first k events, and up to which event the buffers show them
-  abbrev pub verdict : ℕ → Verdict
-  verdict k = verdictIn rules (eventTrace ev) k
-
-  abbrev pub stopAt : ℕ → ℕ
-  stopAt k = stopIn rules (eventTrace ev) k

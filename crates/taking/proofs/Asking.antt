@@ -27,7 +27,7 @@ use Rattle.races.specs.Shown.{Arriving}
 use Rattle.races.specs.Mark.{rank, actOf, rules, layout, two, eventTrace}
 use Rattle.races.proofs.Shown.{told-by}
 use Rattle.races.proofs.Mark.{places-laid}
-use Rattle.races.proofs.Named.{lawful, fit}
+use Rattle.races.proofs.Events.{lawful, fit}
 use Rattle.taking.specs.Buffers.{Buffers, ordersIn}
 use Rattle.taking.specs.Asking.{heldOr, heldAbove, Askable}
 use Rattle.taking.specs.Turns.{Run, Midway}

@@ -28,7 +28,7 @@ use Rattle.races.specs.declared.Met.the-variants.{First, Nothing}
 use Rattle.races.proofs.Found.{found-none, found-off}
 use Rattle.races.proofs.Shown.{first-met, nothing-met, shown-other, shown-frozen, shown-racing}
 use Rattle.races.proofs.OneRace.{all-unraced, still-none, stops-here}
-use Rattle.races.proofs.Named.{lawful, fit}
+use Rattle.races.proofs.Events.{lawful, fit}
 use Rattle.taking.specs.declared.Turn.the-variants.{Go, Raced}
 use Rattle.taking.specs.Buffers.{Buffers, ordersIn}
 use Rattle.taking.specs.Asking.{heldAbove, Askable}
