@@ -1,35 +1,73 @@
-// Judges the job file on standard input and prints the one line of it.
+// Judges the job file on standard input and prints the one line of it. Where a read fails no line is
+// printed, since what came is not the file; what failed, reading or printing, is told on standard error.
+ghost use Prim.Native.Nat.{_≤_};
+ghost use lib.ListN.{length};
+ghost use Rattle.io.specs.Counts.{Counts};
+ghost use Rattle.jobfile.specs.Lent.{was, is};
+ghost use Rattle.bytes_at.specs.Put.{Put};
+ghost use Rattle.judge.specs.Printed.{printedOf, InputFits};
+use bytes_at::put;
 use libc::STDIN_FILENO;
 use libc::STDOUT_FILENO;
 
-// An output of 256 bytes is never too short, as the contract of `line` says.
-fn print_line(input: &[u8]) {
+// The most bytes that the program takes.
+const MOST: usize = 65536;
+
+// How many bytes standard input has, as far as there is room for them; or a read failed.
+enum Input {
+    Bytes(usize),
+    Failed,
+}
+
+// Standard input from its start, until it ends or the buffer is full.
+fn read(buffer: &mut [u8]) -> Input
+    ensures { λ r. ⌜ InputFits r (is buffer) ⌝ }
+{
+    let mut n = 0;
+    while n < buffer.len() {
+        let got = libc::read(STDIN_FILENO, &mut buffer[n..]);
+        if got < 0 {
+            return Input::Failed;
+        }
+        let more = io::count(got, &buffer[n..]);
+        if more == 0 {
+            return Input::Bytes(n);
+        }
+        n += more;
+    }
+    Input::Bytes(n)
+}
+
+// What is printed for the input, at the start of `out`; answers how many bytes.
+// requires: there is room for the longest line.
+fn printed(input: &[u8], out: &mut [u8]) -> usize
+    requires { ⌜ 256 ≤ length (now out) ⌝ }
+    ensures { λ n. ⌜ Put (was out) 0 (printedOf (was input)) n (is out) ⌝ }
+    ensures { λ n. ⌜ Counts n (is out) ⌝ }
+{
+    if input.len() > MOST {
+        return put(out, 0, b"too long\n");
+    }
     let mut labels = [0u64; limits::LABELS];
     let mut links = [0u16; limits::LINKS];
     let mut places = [0u32; limits::PLACES];
-    let mut out = [0u8; 256];
-    match line::line(input, &mut labels, &mut links, &mut places, &mut out) {
-        line::Lined::Bytes(n) => {
-            io::write_all(STDOUT_FILENO, &out[..n]);
-        }
-        line::Lined::Short => {}
+    match line::line(input, &mut labels, &mut links, &mut places, out) {
+        line::Lined::Bytes(n) => n,
+        line::Lined::Short => 0,
     }
 }
 
-// Whether standard input, of which the buffer's 65,536 bytes were read, has more.
-fn more() -> bool {
-    let mut one = [0u8; 1];
-    io::read_full(STDIN_FILENO, &mut one) > 0
-}
-
+// One byte more than the program takes shows that there are too many.
 fn main() {
-    let mut buffer = io::large_buffer();
-    let n = io::read_full(STDIN_FILENO, &mut buffer);
-    if n == 65536 {
-        if more() {
-            io::write_all(STDOUT_FILENO, b"too long\n");
-            return;
+    let mut buffer = [0u8; MOST + 1];
+    let mut out = [0u8; 256];
+    match read(&mut buffer) {
+        Input::Bytes(n) => {
+            let length = printed(&buffer[..n], &mut out);
+            if !io::write_all(STDOUT_FILENO, &out[..length]) {
+                os::fail(b"judge: standard output");
+            }
         }
+        Input::Failed => os::fail(b"judge: standard input"),
     }
-    print_line(&buffer[..n]);
 }
