@@ -7,3 +7,4 @@ pub mod Accepted
 pub mod Accesses
 pub mod Limits
 pub mod Promise
+pub mod Rows

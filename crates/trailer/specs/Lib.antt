@@ -1,1 +1,3 @@
 pub mod Trailer
+pub mod Table
+pub mod Rows

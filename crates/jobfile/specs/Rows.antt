@@ -1,0 +1,75 @@
+-- Rows 8 to 13 of the table, each by itself, and the table of reading.
+use Prim.Native.Nat.{ℕ, suc, _+_, _*_, _≤_, _<_}
+use mathlib.Core.Path.{_≡_}
+use mathlib.Core.Logic.{_⊎_}
+use mathlib.Core.List.{List, [], _∷_, _++_}
+use lib.ListN.{getD}
+use Rattle.trailer.specs.Table.{Rows, row, Table, Exact, ExactNumbers}
+use Rattle.trailer.specs.Rows.{countOf, recordsOf, startOf, headTable}
+use Rattle.jobfile.specs.declared.Job.{Job}
+use Rattle.jobfile.specs.declared.event.Move.{Move}
+use Rattle.jobfile.specs.declared.Checked.the-variants.{Accepted, Refused}
+use Rattle.jobfile.specs.Refusals.{refusalOf}
+use Rattle.jobfile.specs.Trace.{eventAt, moves, depthAt, begunAt}
+use Rattle.jobfile.specs.File.{eventsFrom, checkOf, refusalNumber, refusalEvent}
+
+-- "An event: kind, a zero byte, record number (2 bytes)."
+abbrev pub kindAt : List ℕ → ℕ → ℕ
+kindAt part m = getD part (4 * m) 0
+
+abbrev pub secondAt : List ℕ → ℕ → ℕ
+secondAt part m = getD part (4 * m + 1) 0
+
+abbrev pub numberAt : List ℕ → ℕ → ℕ
+numberAt part m = getD part (4 * m + 2) 0 + 256 * getD part (4 * m + 3) 0
+
+-- 8: "kind not 1 to 5, second byte not 0, or a record on kinds 1 to 3"
+abbrev pub NoEvent : ℕ → ℕ → ℕ → Type 0
+NoEvent kind second number = ¬ ((1 ≤ kind) × (kind ≤ 5)) ⊎ (¬ (second ≡ 0) ⊎ ((1 ≤ kind) × (kind ≤ 3) × ¬ (number ≡ 0)))
+
+-- The rows of one event: its three fields, the tasks open before it, the strands begun before and after it.
+-- "1 spawn, 2 end, 3 sync, 4 read, 5 write"
+pub data AtEvent (records kind second number open before after : ℕ) : ℕ → Type 0 where
+  row-8 : NoEvent kind second number → AtEvent records kind second number open before after 8
+  -- 9: "record at or over the record count"
+  row-9 : records ≤ number → AtEvent records kind second number open before after 9
+  -- 10: "end with only the root open"
+  row-10 : kind ≡ 2 → open ≡ 1 → AtEvent records kind second number open before after 10
+  -- 11: "spawn with 64 tasks open"
+  row-11 : kind ≡ 1 → open ≡ 64 → AtEvent records kind second number open before after 11
+  -- 12: "the event would begin a 4,097th strand"
+  row-12 : before ≡ 4096 → after ≡ 4097 → AtEvent records kind second number open before after 12
+
+-- of each event of a part
+abbrev pub eventRows : ℕ → ℕ → List ℕ → Rows
+eventRows records count part n m =
+    let mv = moves (eventAt part) in
+    (m < count) × AtEvent records (kindAt part m) (secondAt part m) (numberAt part m) (depthAt mv m) (begunAt mv m) (begunAt mv (suc m)) n
+
+-- "then event by event 8, 9, 10 or 11, 12, then 13": "a task other than the root open after the last event"
+abbrev pub traceTable : ℕ → ℕ → List ℕ → Table
+traceTable records count part = eventRows records count part ∷ row 13 (1 < depthAt (moves (eventAt part)) count) ∷ []
+
+-- the event part of a file by its trailer: 4 bytes an event
+abbrev pub partIn : List ℕ → List ℕ
+partIn file = eventsFrom file (startOf file) (countOf file)
+
+-- "Order when reading: 1 to 7, then event by event 8, 9, 10 or 11, 12, then 13."
+abbrev pub readTable : List ℕ → Table
+readTable file = headTable file ++ traceTable (recordsOf file) (countOf file) (partIn file)
+
+-- what an accepted file gives: the trailer's words, and the strands begun at its end
+abbrev pub jobIn : List ℕ → Job
+jobIn file = record {
+  start = startOf file;
+  events = countOf file;
+  records = recordsOf file;
+  strands = begunAt (moves (eventAt (partIn file))) (countOf file);
+}
+
+-- Reading is exact, for every byte string.
+abbrev pub ReadingExact : List ℕ → Type 0
+ReadingExact file = Exact (readTable file) (Accepted (jobIn file)) (λ n m. Refused (refusalOf n m)) (checkOf file)
+
+abbrev pub ReadingNumbers : List ℕ → Type 0
+ReadingNumbers file = ExactNumbers (readTable file) (refusalNumber (checkOf file)) (refusalEvent (checkOf file))
