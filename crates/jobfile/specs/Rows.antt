@@ -29,16 +29,16 @@ NoEvent kind second number = ¬ ((1 ≤ kind) × (kind ≤ 5)) ⊎ (¬ (second �
 
 -- The rows of one event: its three fields, the tasks open before it, the strands begun before and after it.
 -- "1 spawn, 2 end, 3 sync, 4 read, 5 write"
-pub data AtEvent (records kind second number open before after : ℕ) : ℕ → Type 0 where
-  row-8 : NoEvent kind second number → AtEvent records kind second number open before after 8
+pub data AtEvent (records kind second number depth before after : ℕ) : ℕ → Type 0 where
+  row-8 : NoEvent kind second number → AtEvent records kind second number depth before after 8
   -- 9: "record at or over the record count"
-  row-9 : records ≤ number → AtEvent records kind second number open before after 9
+  row-9 : records ≤ number → AtEvent records kind second number depth before after 9
   -- 10: "end with only the root open"
-  row-10 : kind ≡ 2 → open ≡ 1 → AtEvent records kind second number open before after 10
+  row-10 : kind ≡ 2 → depth ≡ 1 → AtEvent records kind second number depth before after 10
   -- 11: "spawn with 64 tasks open"
-  row-11 : kind ≡ 1 → open ≡ 64 → AtEvent records kind second number open before after 11
+  row-11 : kind ≡ 1 → depth ≡ 64 → AtEvent records kind second number depth before after 11
   -- 12: "the event would begin a 4,097th strand"
-  row-12 : before ≡ 4096 → after ≡ 4097 → AtEvent records kind second number open before after 12
+  row-12 : before ≡ 4096 → after ≡ 4097 → AtEvent records kind second number depth before after 12
 
 -- of each event of a part
 abbrev pub eventRows : ℕ → ℕ → List ℕ → Rows
