@@ -71,7 +71,7 @@ pub fn judge_job(
     places: &mut [u32],
 ) -> Answer
     requires { ⌜ checkOf (now file) ≡ Accepted job ⌝ }
-    ensures { λ r. ⌜ JudgeGives (was file) k (before labels links places) r (after labels links places) ⌝ }
+    ensures { λ answer. ⌜ JudgeGives (was file) k (before labels links places) answer (after labels links places) ⌝ }
 {
     let fault = judge_fault(job, k, labels.len(), links.len(), places.len());
     if fault != 0 {
