@@ -17,6 +17,7 @@ use Rattle.strands.specs.Cells.{Cell, cell, cells}
 use Rattle.strands.specs.States.{englishState, hebrewState, englishCount, hebrewCount}
 use Rattle.jobfile.specs.Lent.{Lent}
 use Rattle.strands.specs.Memory.{Memory, OpenTasks, memory, tasks}
+use Rattle.strands.specs.TasksAfter.{tasksAfter}
 use Rattle.strands.specs.declared.Now.{Now}
 
 -- 65,535 is none
@@ -77,10 +78,10 @@ pub record Ready (M : Memory) (T : OpenTasks) (now : Now) (m : Move) : Type 0 wh
   pub reached : Reached mv n M₀ M T now
   pub takes : Takes mv n m
 
--- what it gives: for every such trace, the state behind the event
-abbrev pub Advances : Memory → OpenTasks → Now → Move → Memory → OpenTasks → Now → Type 0
-Advances M T now m M′ T′ next =
-    (mv : ℕ → Move) (n : ℕ) (M₀ : Memory) → Reached mv n M₀ M T now → Takes mv n m → Reached mv (suc n) M₀ M′ T′ next
+-- what it gives: for every such trace, the state behind the event; and every entry of the open tasks' arrays, those of no open task too
+pub record Advances (M : Memory) (T : OpenTasks) (now : Now) (m : Move) (M′ : Memory) (T′ : OpenTasks) (next : Now) : Type 0 where
+  pub behind : (mv : ℕ → Move) (n : ℕ) (M₀ : Memory) → Reached mv n M₀ M T now → Takes mv n m → Reached mv (suc n) M₀ M′ T′ next
+  pub tasks-are : T′ ≡ tasksAfter m (now .strands) (now .top) T
 
 -- the same of what a call is lent
 abbrev pub Started : Lent → Lent → Now → Type 0

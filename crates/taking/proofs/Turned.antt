@@ -58,7 +58,7 @@ module _ {part : List ℕ} {records k : ℕ} {B₀ B : Buffers} {T : OpenTasks} 
   access-midway : (kind : Kind) (r : ℕ) → accessOf (eventAt part i) ≡ To kind r → (P′ : List ℕ)
       → Shown rules (eventTrace (eventAt part)) layout (suc i) records (B₀ .places) P′ → Midway part records B₀ (placed B P′) T now (suc i)
   access-midway kind r e P′ shown = record {
-    reached = nothing-advances (ordersIn B) T now Stays T (refl, refl, refl, refl) (moves (eventAt part)) i (ordersIn B₀) (S .reached)
+    reached = nothing-advances (ordersIn B) T now Stays T (refl, refl, refl, refl) .behind (moves (eventAt part)) i (ordersIn B₀) (S .reached)
         (rw (access-stays (eventAt part i) kind r e) at (taken R behind));
     shown = shown;
     places-room = omega (arith, shown .size, S .shown .size, S .places-room);
@@ -78,7 +78,7 @@ module _ {part : List ℕ} {records k : ℕ} {B₀ B : Buffers} {T : OpenTasks} 
   move-midway e L′ K′ T′ next advances =
       let ev = eventAt part in
       record {
-        reached = advances (moves ev) i (ordersIn B₀) (S .reached) (taken R behind);
+        reached = advances .behind (moves ev) i (ordersIn B₀) (S .reached) (taken R behind);
         shown = shown-other rules (eventTrace ev) layout records (B₀ .places) (lawful ev) (fit ev) i (B .places) (S .shown) (ap actOf e);
         places-room = S .places-room;
       }
