@@ -4,6 +4,7 @@ use mathlib.Core.Path.{_≡_, refl, sym, _∙_}
 use mathlib.Core.List.{List}
 use Prim.Native.Nat.{ℕ}
 use Rattle.taking.specs.Buffers.{Buffers}
+use Rattle.judging.proofs.Gives.{judge-gives}
 use Rattle.judging.proofs.OneAnswer.{judged-once}
 use Rattle.exports.specs.Gives.{WriteCallGives, JudgeCallGives}
 
@@ -14,5 +15,5 @@ rz-written-once name records events out A A′ left left′ a b = (a .numbers �
 pub rz-judged-once : (file : List ℕ) (k : ℕ) (B₀ : Buffers) (A A′ : List ℕ) (B B′ : Buffers)
     → JudgeCallGives file k B₀ A B → JudgeCallGives file k B₀ A′ B′ → (A ≡ A′) × (B ≡ B′)
 rz-judged-once file k B₀ A A′ B B′ a b =
-    let once = judged-once file k B₀ _ _ B B′ (record { answer = refl; leaves = a .leaves }) (record { answer = refl; leaves = b .leaves }) in
+    let once = judged-once file k B₀ _ _ B B′ (judge-gives file k B₀ _ B refl (a .leaves)) (judge-gives file k B₀ _ B′ refl (b .leaves)) in
     (a .numbers ∙ sym (b .numbers), once .1)

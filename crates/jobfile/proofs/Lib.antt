@@ -6,5 +6,7 @@ pub mod Told
 pub mod Accepted
 pub mod Accesses
 pub mod Limits
-pub mod Promise
+pub mod EventRows
 pub mod Rows
+pub mod Gives
+pub mod Promise

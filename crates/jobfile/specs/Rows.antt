@@ -1,15 +1,18 @@
 -- Rows 8 to 13 of the table, each by itself, and the table of reading.
 use Prim.Native.Nat.{ℕ, suc, _+_, _*_, _≤_, _<_}
 use mathlib.Core.Path.{_≡_}
-use mathlib.Core.Logic.{_⊎_}
+use mathlib.Core.Logic.{_⊎_, _↔_}
 use mathlib.Core.List.{List, [], _∷_, _++_}
 use lib.ListN.{getD}
 use Rattle.trailer.specs.Table.{Rows, row, Table, Exact, ExactNumbers}
 use Rattle.trailer.specs.Rows.{countOf, recordsOf, startOf, headTable}
 use Rattle.jobfile.specs.declared.Job.{Job}
-use Rattle.jobfile.specs.declared.event.Move.{Move}
+use Rattle.jobfile.specs.declared.event.Event.{Event}
+use Rattle.jobfile.specs.declared.event.Event.the-variants.{Spawn, End, Sync, Read, Write}
+use Rattle.jobfile.specs.declared.coding.Decoded.the-variants.{Event as An, Refused as Unread}
 use Rattle.jobfile.specs.declared.Checked.the-variants.{Accepted, Refused}
 use Rattle.jobfile.specs.Refusals.{refusalOf}
+use Rattle.jobfile.specs.Coding.{eventOf}
 use Rattle.jobfile.specs.Trace.{eventAt, moves, depthAt, begunAt}
 use Rattle.jobfile.specs.File.{eventsFrom, checkOf, refusalNumber, refusalEvent}
 
@@ -24,13 +27,25 @@ abbrev pub numberAt : List ℕ → ℕ → ℕ
 numberAt part m = getD part (4 * m + 2) 0 + 256 * getD part (4 * m + 3) 0
 
 -- 8: "kind not 1 to 5, second byte not 0, or a record on kinds 1 to 3"
-abbrev pub NoEvent : ℕ → ℕ → ℕ → Type 0
-NoEvent kind second number = ¬ ((1 ≤ kind) × (kind ≤ 5)) ⊎ (¬ (second ≡ 0) ⊎ ((1 ≤ kind) × (kind ≤ 3) × ¬ (number ≡ 0)))
+abbrev pub Malformed : ℕ → ℕ → ℕ → Type 0
+Malformed kind second number = ¬ ((1 ≤ kind) × (kind ≤ 5)) ⊎ (¬ (second ≡ 0) ⊎ ((1 ≤ kind) × (kind ≤ 3) × ¬ (number ≡ 0)))
+
+-- what the fields of each event are: "1 spawn, 2 end, 3 sync, 4 read, 5 write. Spawn, end and sync have record 0"
+abbrev pub Coded : ℕ → ℕ → ℕ → Event → Type 0
+Coded kind second number Spawn = (kind ≡ 1) × (second ≡ 0) × (number ≡ 0)
+Coded kind second number End = (kind ≡ 2) × (second ≡ 0) × (number ≡ 0)
+Coded kind second number Sync = (kind ≡ 3) × (second ≡ 0) × (number ≡ 0)
+Coded kind second number (Read r) = (kind ≡ 4) × (second ≡ 0) × (number ≡ r)
+Coded kind second number (Write r) = (kind ≡ 5) × (second ≡ 0) × (number ≡ r)
+
+-- Decoding is exact, for every three fields.
+pub record DecodingExact (kind second number : ℕ) : Type 0 where
+  pub event : (e : Event) → (eventOf kind second number ≡ An e) ↔ Coded kind second number e
+  pub refusal : (k : ℕ) → (eventOf kind second number ≡ Unread k) ↔ ((k ≡ 8) × Malformed kind second number)
 
 -- The rows of one event: its three fields, the tasks open before it, the strands begun before and after it.
--- "1 spawn, 2 end, 3 sync, 4 read, 5 write"
 pub data AtEvent (records kind second number depth before after : ℕ) : ℕ → Type 0 where
-  row-8 : NoEvent kind second number → AtEvent records kind second number depth before after 8
+  row-8 : Malformed kind second number → AtEvent records kind second number depth before after 8
   -- 9: "record at or over the record count"
   row-9 : records ≤ number → AtEvent records kind second number depth before after 9
   -- 10: "end with only the root open"
@@ -40,11 +55,14 @@ pub data AtEvent (records kind second number depth before after : ℕ) : ℕ →
   -- 12: "the event would begin a 4,097th strand"
   row-12 : before ≡ 4096 → after ≡ 4097 → AtEvent records kind second number depth before after 12
 
--- of each event of a part
-abbrev pub eventRows : ℕ → ℕ → List ℕ → Rows
-eventRows records count part n m =
+-- of event m of a part
+abbrev pub rowAt : ℕ → List ℕ → ℕ → ℕ → Type 0
+rowAt records part m =
     let mv = moves (eventAt part) in
-    (m < count) × AtEvent records (kindAt part m) (secondAt part m) (numberAt part m) (depthAt mv m) (begunAt mv m) (begunAt mv (suc m)) n
+    AtEvent records (kindAt part m) (secondAt part m) (numberAt part m) (depthAt mv m) (begunAt mv m) (begunAt mv (suc m))
+
+abbrev pub eventRows : ℕ → ℕ → List ℕ → Rows
+eventRows records count part n m = (m < count) × rowAt records part m n
 
 -- "then event by event 8, 9, 10 or 11, 12, then 13": "a task other than the root open after the last event"
 abbrev pub traceTable : ℕ → ℕ → List ℕ → Table

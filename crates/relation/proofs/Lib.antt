@@ -9,4 +9,6 @@ pub mod Answers
 pub mod Files
 pub mod Meaning
 pub mod Cases
+pub mod Rows
+pub mod Gives
 pub mod Promise

@@ -83,7 +83,7 @@ module _ (mv : ℕ → Move) (i j : ℕ) where
 
   module _ (rooted-i : Rooted mv i) (rooted-j : Rooted mv j) where
     -- the walk's answer is the definition's
-    compare-says : Says mv i j (compareOf mv i j)
+    pub compare-says : Says mv i j (compareOf mv i j)
     compare-says = go (decLe j i) (decLe i j)
       where
         forth : i < j → (par mv i j ≡ true) ⊎ (par mv i j ≡ false) → Says mv i j (compareOf mv i j)

@@ -37,8 +37,8 @@ unfolding printable
 unprintable [] e = absurd (false≢true (sym e))
 unprintable (x ∷ xs) e = by (ltb x 32) refl (ltb 126 x) refl e (unprintable xs)
   where
-    by : (a : Bool) → ltb x 32 ≡ a → (b : Bool) → ltb 126 x ≡ b → cond a false (cond b false (printable xs)) ≡ false → (printable xs ≡ false → ByteOut xs)
-        → ByteOut (x ∷ xs)
+    by : (a : Bool) → ltb x 32 ≡ a → (b : Bool) → ltb 126 x ≡ b → cond a false (cond b false (printable xs)) ≡ false
+        → (printable xs ≡ false → ByteOut xs) → ByteOut (x ∷ xs)
     by true p b q z rest = (0, omega arith, inl (ltb-true x 32 p))
     by false p true q z rest = (0, omega arith, inr (ltb-true 126 x q))
     by false p false q z rest = let r = rest z in (suc (r .0), omega arith, r .2)
@@ -48,8 +48,8 @@ unfolding printable
 printed [] e o = omega arith
 printed (x ∷ xs) e o = by (ltb x 32) refl (ltb 126 x) refl e (printed xs) (o .0) (o .1) (o .2)
   where
-    by : (a : Bool) → ltb x 32 ≡ a → (b : Bool) → ltb 126 x ≡ b → cond a false (cond b false (printable xs)) ≡ true → (printable xs ≡ true → ¬ ByteOut xs)
-        → (i : ℕ) → i < length (x ∷ xs) → (getD (x ∷ xs) i 0 < 32) ⊎ (126 < getD (x ∷ xs) i 0) → ⊥
+    by : (a : Bool) → ltb x 32 ≡ a → (b : Bool) → ltb 126 x ≡ b → cond a false (cond b false (printable xs)) ≡ true
+        → (printable xs ≡ true → ¬ ByteOut xs) → (i : ℕ) → i < length (x ∷ xs) → (getD (x ∷ xs) i 0 < 32) ⊎ (126 < getD (x ∷ xs) i 0) → ⊥
     by true p b q z rest i l o = false≢true z
     by false p true q z rest i l o = false≢true z
     by false p false q z rest zero l (inl o) = omega (arith, ltb-false x 32 p)
@@ -72,10 +72,15 @@ module _ (file : List ℕ) where
   abbrev before : ℕ
   before = length file - 16
 
+  abbrev named : List ℕ
+  named = take (startOf file) file
+
+  abbrev whole : Head
+  whole = Whole (startOf file) (countOf file) (recordsOf file)
+
   -- how the head ends by a table: read by the trailer's words, or refused by the row that is given
   abbrev pub HeadEnds : Table → Head → Type 0
-  HeadEnds table h =
-      ((h ≡ Whole (startOf file) (countOf file) (recordsOf file)) × NoRow table) ⊎ ((k : ℕ) × (h ≡ Refused k) × (0 < k) × Given table k 0)
+  HeadEnds table h = ((h ≡ whole) × NoRow table) ⊎ ((k : ℕ) × (h ≡ Refused k) × (0 < k) × Given table k 0)
 
   -- past rows that do not hold
   past : (rows : Rows) (table : Table) (h : Head) → Nowhere rows → HeadEnds table h → HeadEnds (rows ∷ table) h
@@ -89,17 +94,17 @@ module _ (file : List ℕ) where
       ∷ row 4 (EventCountOver (countOf file))
       ∷ row 5 (¬ (distanceOf file ≡ 4 * countOf file))
       ∷ row 6 (before < distanceOf file)
-      ∷ row 7 (NameOut (take (startOf file) file))
+      ∷ row 7 (NameOut named)
       ∷ []
 
   sized : HeadEnds sizes (headSized file before (distanceOf file) (countOf file) (recordsOf file))
   unfolding headSized headNamed trailerFault
   sized =
-      by (eqb (recordsOf file) 0) refl (ltb 4096 (recordsOf file)) refl (ltb 1000000 (countOf file)) refl (eqb (distanceOf file) (4 * countOf file)) refl
-      (ltb before (distanceOf file)) refl (ltb 64 (startOf file)) refl (printable (take (startOf file) file)) refl
+      by (eqb (recordsOf file) 0) refl (ltb 4096 (recordsOf file)) refl (ltb 1000000 (countOf file)) refl
+      (eqb (distanceOf file) (4 * countOf file)) refl (ltb before (distanceOf file)) refl (ltb 64 (startOf file)) refl (printable named) refl
     where
-      named : length (take (startOf file) file) ≡ startOf file
-      named = length-take-le (startOf file) file (omega arith)
+      all : length named ≡ startOf file
+      all = length-take-le (startOf file) file (omega arith)
 
       few : eqb (recordsOf file) 0 ≡ false → ltb 4096 (recordsOf file) ≡ false → Nowhere (row 3 (RecordCountOut (recordsOf file)))
       few p q = not-row (count-in (recordsOf file) (eqb-false (recordsOf file) 0 p) (ltb-false 4096 (recordsOf file) q))
@@ -107,45 +112,52 @@ module _ (file : List ℕ) where
       not-over : ltb 1000000 (countOf file) ≡ false → Nowhere (row 4 (EventCountOver (countOf file)))
       not-over r = not-row (λ l. omega (arith, ltb-false 1000000 (countOf file) r))
 
-      apart : eqb (distanceOf file) (4 * countOf file) ≡ true → Nowhere (row 5 (¬ (distanceOf file ≡ 4 * countOf file)))
-      apart s = not-row (λ n. n (eqb-true (distanceOf file) (4 * countOf file) s))
+      same : eqb (distanceOf file) (4 * countOf file) ≡ true → Nowhere (row 5 (¬ (distanceOf file ≡ 4 * countOf file)))
+      same s = not-row (λ n. n (eqb-true (distanceOf file) (4 * countOf file) s))
 
       inside : ltb before (distanceOf file) ≡ false → Nowhere (row 6 (before < distanceOf file))
       inside t = not-row (λ l. omega (arith, ltb-false before (distanceOf file) t))
 
       by : (a : Bool) → eqb (recordsOf file) 0 ≡ a → (b : Bool) → ltb 4096 (recordsOf file) ≡ b → (c : Bool) → ltb 1000000 (countOf file) ≡ c
           → (d : Bool) → eqb (distanceOf file) (4 * countOf file) ≡ d → (e : Bool) → ltb before (distanceOf file) ≡ e
-          → (f : Bool) → ltb 64 (startOf file) ≡ f → (g : Bool) → printable (take (startOf file) file) ≡ g
+          → (f : Bool) → ltb 64 (startOf file) ≡ f → (g : Bool) → printable named ≡ g
           → HeadEnds sizes
-          (cond (eqb (cond a 3 (cond b 3 (cond c 4 (cond d (cond e 6 (cond f 7 0)) 5)))) 0) (cond g (Whole (startOf file) (countOf file) (recordsOf file)) (Refused 7))
+          (cond (eqb (cond a 3 (cond b 3 (cond c 4 (cond d (cond e 6 (cond f 7 0)) 5)))) 0)
+          (cond g whole (Refused 7))
           (Refused (cond a 3 (cond b 3 (cond c 4 (cond d (cond e 6 (cond f 7 0)) 5))))))
       by true p b q c r d s e t f u g v = inr (3, refl, omega arith, inl (first-row 3 (inl (eqb-true (recordsOf file) 0 p))))
       by false p true q c r d s e t f u g v = inr (3, refl, omega arith, inl (first-row 3 (inr (ltb-true 4096 (recordsOf file) q))))
-      by false p false q true r d s e t f u g v = inr (4, refl, omega arith, inr (few p q, inl (first-row 4 (ltb-true 1000000 (countOf file) r))))
+      by false p false q true r d s e t f u g v =
+          inr (4, refl, omega arith, inr (few p q, inl (first-row 4 (ltb-true 1000000 (countOf file) r))))
       by false p false q false r false s e t f u g v =
           inr (5, refl, omega arith, inr (few p q, inr (not-over r, inl (first-row 5 (eqb-false (distanceOf file) (4 * countOf file) s)))))
       by false p false q false r true s true t f u g v =
-          inr (6, refl, omega arith, inr (few p q, inr (not-over r, inr (apart s, inl (first-row 6 (ltb-true before (distanceOf file) t))))))
+          inr (6, refl, omega arith, inr (few p q, inr (not-over r, inr (same s, inl (first-row 6 (ltb-true before (distanceOf file) t))))))
       by false p false q false r true s false t true u g v =
-          inr (7, refl, omega arith, inr (few p q, inr (not-over r, inr (apart s, inr (inside t, inl (first-row 7 (inl (rw named (ltb-true 64 (startOf file) u)))))))))
+          let long : NameOut named = inl (rw all (ltb-true 64 (startOf file) u)) in
+          inr (7, refl, omega arith, inr (few p q, inr (not-over r, inr (same s, inr (inside t, inl (first-row 7 long))))))
       by false p false q false r true s false t false u false v =
-          inr (7, refl, omega arith, inr (few p q, inr (not-over r, inr (apart s, inr (inside t, inl (first-row 7 (name-out (take (startOf file) file) v)))))))
+          inr (7, refl, omega arith, inr (few p q, inr (not-over r, inr (same s, inr (inside t, inl (first-row 7 (name-out named v)))))))
       by false p false q false r true s false t false u true v =
-          inl (refl, (few p q, (not-over r, (apart s, (inside t, (not-row (name-in (take (startOf file) file) (rw named (ltb-false 64 (startOf file) u)) v), tt))))))
+          let fits = not-row (name-in named (rw all (ltb-false 64 (startOf file) u)) v) in
+          inl (refl, (few p q, (not-over r, (same s, (inside t, (fits, tt))))))
 
   pub head-ends : HeadEnds (headTable file) (headOf file)
   unfolding headOf
-  head-ends = by (ltb (length file) 16) refl (startsWith (drop (length file - 4) file) mark) refl
+  head-ends = by (ltb (length file) 16) refl (startsWith last mark) refl
     where
+      last : List ℕ
+      last = drop (length file - 4) file
+
       long : ltb (length file) 16 ≡ false → Nowhere (row 1 (length file < 16))
       long p = not-row (λ l. omega (arith, ltb-false (length file) 16 p))
 
-      by : (a : Bool) → ltb (length file) 16 ≡ a → (b : Bool) → startsWith (drop (length file - 4) file) mark ≡ b
-          → HeadEnds (headTable file) (cond a (Refused 1) (cond b (headSized file before (distanceOf file) (countOf file) (recordsOf file)) (Refused 2)))
+      by : (a : Bool) → ltb (length file) 16 ≡ a → (b : Bool) → startsWith last mark ≡ b
+          → HeadEnds (headTable file)
+          (cond a (Refused 1) (cond b (headSized file before (distanceOf file) (countOf file) (recordsOf file)) (Refused 2)))
       by true p b q = inr (1, refl, omega arith, inl (first-row 1 (ltb-true (length file) 16 p)))
-      by false p false q =
-          inr (2, refl, omega arith, inr (long p, inl (first-row 2 (unmarked (drop (length file - 4) file) q))))
+      by false p false q = inr (2, refl, omega arith, inr (long p, inl (first-row 2 (unmarked last q))))
       by false p true q =
-          let four : length (drop (length file - 4) file) ≡ 4 = omega (arith, length-drop (length file - 4) file, ltb-false (length file) 16 p) in
-          past (row 1 (length file < 16)) (row 2 (¬ (drop (length file - 4) file ≡ mark)) ∷ sizes) _ (long p)
-          (past (row 2 (¬ (drop (length file - 4) file ≡ mark))) sizes _ (not-row (λ n. n (starts-same (drop (length file - 4) file) mark q four))) sized)
+          let four : length last ≡ 4 = omega (arith, length-drop (length file - 4) file, ltb-false (length file) 16 p) in
+          let marked : Nowhere (row 2 (¬ (last ≡ mark))) = not-row (λ n. n (starts-same last mark q four)) in
+          past (row 1 (length file < 16)) (row 2 (¬ (last ≡ mark)) ∷ sizes) _ (long p) (past (row 2 (¬ (last ≡ mark))) sizes _ marked sized)

@@ -1,9 +1,9 @@
 -- Tables: at most one row is given, how a table is gone through, and that an answer which is right where it refuses and where it takes is
 -- exact. Assumes nothing.
-use Prim.Native.Nat.{ℕ, _≤_, _<_}
+use Prim.Native.Nat.{ℕ, _<_}
 use mathlib.Core.Path.{_≡_, refl, sym, ap, _∙_}
-use mathlib.Core.Logic.{_⊎_, inl, inr, _↔_}
-use mathlib.Core.List.{List, [], _∷_, _++_}
+use mathlib.Core.Logic.{_⊎_, inl, inr}
+use mathlib.Core.List.{[], _∷_, _++_}
 use native.Mathlib.Omega.{arith}
 use Rattle.trailer.specs.Table.{Rows, row, Nowhere, First, Table, Given, NoRow, Exact, ExactNumbers}
 
@@ -47,10 +47,24 @@ pub none-both : (front back : Table) → NoRow front → NoRow back → NoRow (f
 none-both [] back y z = z
 none-both (rows ∷ front) back y z = (y .0, none-both front back (y .1) z)
 
+pub none-ahead : (front back : Table) → NoRow (front ++ back) → NoRow front
+none-ahead [] back n = tt
+none-ahead (rows ∷ front) back (f, n) = (f, none-ahead front back n)
+
+pub none-behind : (front back : Table) → NoRow (front ++ back) → NoRow back
+none-behind [] back z = z
+none-behind (rows ∷ front) back z = none-behind front back (z .1)
+
 -- how an answer ends: what a call gives where no row holds, or the refusal that is given
 module _ {A : Type 0} where
   abbrev pub Ends : Table → A → (ℕ → ℕ → A) → A → Type 0
   Ends table taken refused answer = ((answer ≡ taken) × NoRow table) ⊎ ((n m : ℕ) × (answer ≡ refused n m) × (0 < n) × Given table n m)
+
+  -- an answer of a table stands behind one of which no row holds
+  pub ends-behind : (front back : Table) (taken : A) (refused : ℕ → ℕ → A) (answer : A) → NoRow front → Ends back taken refused answer
+      → Ends (front ++ back) taken refused answer
+  ends-behind front back taken refused answer none (inl (e, rest)) = inl (e, none-both front back none rest)
+  ends-behind front back taken refused answer none (inr (n, m, e, p, g)) = inr (n, m, e, p, given-back front back n m none g)
 
   -- of answers whose refusals tell their number and their event
   module _ (table : Table) (taken : A) (refused : ℕ → ℕ → A) (answer : A) (number event : A → ℕ)

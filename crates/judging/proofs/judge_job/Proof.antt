@@ -3,6 +3,7 @@
 use native.Mathlib.Omega.{arith}
 use Rattle.jobfile.proofs.Checking.{accepted-fits}
 use Rattle.judging.proofs.Files.{judge-refused, file-run, judge-run, leaves-run}
+use Rattle.judging.proofs.Gives.{judge-gives}
 use borrow.Author.Needs.{needs}
 use Rattle.judging.proofs.judge_job.Statement.{statement}
 use Rattle.judging.proofs.judge_job.Tie as tie
@@ -17,10 +18,9 @@ returns : tie.Need-returns
 returns c =
     let tested = c .before .before in
     let start = tested .before .before .before .before .before in
-    record {
-      answer = rw (c .refuse .ensures) (judge-refused _ _ _ _ _ _ (start .pre) _ (tested .judge-fault .ensures .0) (c .before .if1 .taken));
-      leaves = search needs;
-    }
+    judge-gives _ _ _ _ _
+    (rw (c .refuse .ensures) (judge-refused _ _ _ _ _ _ (start .pre) _ (tested .judge-fault .ensures .0) (c .before .if1 .taken)))
+    (search needs)
 
 mul-end : tie.Need-mul-end
 mul-end c = let start = c .before .before .before .before .before .before .before in omega (arith, accepted-fits _ _ (start .pre))
@@ -60,10 +60,9 @@ returns-2 c =
     let passed = ran .before .before .before .before .before .before in
     let tested = passed .before in
     let start = tested .before .before .before .before .before in
-    record {
-      answer = judge-run _ _ _ _ _ _ (start .pre) _ _ (tested .judge-fault .ensures .0) (passed .if1 .left) (ran .run .ensures .0);
-      leaves = leaves-run _ _ _ _ _ (start .pre) _ (ran .run .ensures .0) (ran .run .ensures .1);
-    }
+    judge-gives _ _ _ _ _
+    (judge-run _ _ _ _ _ _ (start .pre) _ _ (tested .judge-fault .ensures .0) (passed .if1 .left) (ran .run .ensures .0))
+    (leaves-run _ _ _ _ _ (start .pre) _ (ran .run .ensures .0) (ran .run .ensures .1))
 
 pub judge-job-spec : {M : Type 1} → statement M
 judge-job-spec =

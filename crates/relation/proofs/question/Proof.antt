@@ -9,6 +9,7 @@ use native.Mathlib.Omega.{arith}
 use Rattle.jobfile.specs.File.{CheckFits}
 use Rattle.jobfile.specs.declared.Checked.the-variants.{Accepted}
 use Rattle.relation.proofs.Files.{question-unread, question-asked, stretch-file}
+use Rattle.relation.proofs.Gives.{question-gives}
 use Rattle.relation.proofs.question.Statement.{statement}
 use Rattle.relation.proofs.question.Tie as tie
 
@@ -51,16 +52,15 @@ asked-requires c κs =
 returns : tie.Need-returns
 returns c =
     let told = c .before in
-    record { answer = sym (question-unread _ _ _ (told .r .given .0 .0) (sym (told .before .before .check .ensures .answer) ∙ told .r .given .1)) }
+    question-gives _ _ _ _ (sym (question-unread _ _ _ (told .r .given .0 .0) (sym (told .before .before .check .ensures .answer) ∙ told .r .given .1)))
 
 returns-2 : tie.Need-returns-2
 returns-2 c =
     let told = c .before .before .before .before in
     let job = told .job .given .0 .0 in
-    record {
-      answer = (rw (add-sub-cancel-left (job .start) (4 * job .events)) at (c .asked .ensures))
-          ∙ sym (question-asked _ job (sym (told .before .before .check .ensures .answer) ∙ told .job .given .1) _ _);
-    }
+    question-gives _ _ _ _
+    ((rw (add-sub-cancel-left (job .start) (4 * job .events)) at (c .asked .ensures))
+    ∙ sym (question-asked _ job (sym (told .before .before .check .ensures .answer) ∙ told .job .given .1) _ _))
 
 pub question-spec : {M : Type 1} → statement M
 question-spec =
