@@ -61,7 +61,7 @@ pub record SameNumbers (now now′ : Now) : Type 0 where
 
 module _ {mv : ℕ → Move} {n : ℕ} {M₀ M M′ : Memory} {T T′ : OpenTasks} {now now′ : Now} (root : Rooted mv n)
     (S : Reached mv n M₀ M T now) (S′ : Reached mv n M₀ M′ T′ now′) where
-  reached-memory : M ≡ M′
+  pub reached-memory : M ≡ M′
   reached-memory = memory-once mv n root M₀ M M′ (S .untouched) (S′ .untouched) (S .english) (S′ .english) (S .hebrew) (S′ .hebrew)
 
   same-place : suc (now .top) ≡ suc (now′ .top)
@@ -69,7 +69,7 @@ module _ {mv : ℕ → Move} {n : ℕ} {M₀ M M′ : Memory} {T T′ : OpenTask
       sym (length-cells (T .lasts) (T .joins) (now .top)) ∙ ap length (S .open-cells) ∙ sym (ap length (S′ .open-cells))
       ∙ length-cells (T′ .lasts) (T′ .joins) (now′ .top)
 
-  reached-numbers : SameNumbers now now′
+  pub reached-numbers : SameNumbers now now′
   reached-numbers = record {
     top = omega (arith, same-place);
     strands = S .strands ∙ sym (S′ .strands);

@@ -16,6 +16,7 @@ use Rattle.jobfile.specs.declared.event.Access.the-variants.{None, To}
 use Rattle.jobfile.proofs.Accesses.{access-stays}
 use Rattle.relation.proofs.Strand.{begun-some}
 use Rattle.strands.specs.Memory.{OpenTasks}
+use Rattle.strands.specs.TasksAfter.{tasksAfter}
 use Rattle.strands.specs.Reached.{Takes, Ready, Advances}
 use Rattle.strands.specs.declared.Now.{Now}
 use Rattle.strands.proofs.Events.{nothing-advances}
@@ -32,7 +33,7 @@ use Rattle.races.proofs.Events.{lawful, fit}
 use Rattle.taking.specs.declared.Turn.the-variants.{Go, Raced}
 use Rattle.taking.specs.Buffers.{Buffers, ordersIn}
 use Rattle.taking.specs.Asking.{heldAbove, Askable}
-use Rattle.taking.specs.Turns.{Run, Midway, Unraced, Turnable, Turns}
+use Rattle.taking.specs.Turns.{Run, Midway, Unraced, Turnable, Turned, Turns}
 use Rattle.taking.proofs.Asking.{run-rooted, on-record, askable, arriving}
 
 -- the buffers with other places, and with other orders
@@ -100,6 +101,10 @@ module _ {part : List ℕ} {i : ℕ} {B : Buffers} {T : OpenTasks} {now : Now} (
     pub may-ask : (at : ℕ) → at < 12288 → Askable (B .places) (B .labels) at (now .strands - 1)
     may-ask = askable (A .run) (A .next) (A .unraced .midway)
 
+    -- an access leaves the open tasks
+    tasks-stay : T ≡ tasksAfter (moveOf (eventAt part i)) (now .strands) (now .top) T
+    tasks-stay = rw (access-stays (eventAt part i) kind r to-record)
+
     -- with the two answers
     module _ (wrote stood : Bool) (w : wrote ≡ heldAbove (B .labels) (B .places) r (now .strands - 1))
         (s : stood ≡ heldAbove (B .labels) (B .places) (8192 + r) (now .strands - 1)) where
@@ -119,29 +124,38 @@ module _ {part : List ℕ} {i : ℕ} {B : Buffers} {T : OpenTasks} {now : Now} (
 
       pub turns-race : (P′ : List ℕ) (first : ℕ) → Accessed rules layout (two wrote stood) (B .places) r (rank kind) i (now .strands - 1) P′ (First first)
           → Turns part i B T now (placed B P′) T (Raced first r)
-      turns-race P′ first accessed records k B₀ R h U =
-          let J = arrives records k B₀ R h U in
-          let p = accessed (eventTrace (eventAt part)) i records (B₀ .places) J in
-          let f = first-met (firstOf rules (eventTrace (eventAt part)) r i) first (p .0) in (
-            record {
-              reached = U .midway .reached;
-              shown = shown-racing (J .facing) first f (p .1);
-              places-room = omega (arith, p .1 .size, U .midway .shown .size, U .midway .places-room);
-            },
-            stops-here rules (eventTrace (eventAt part)) (lawful (eventAt part)) (fit (eventAt part)) i (U .none-raced) r (rank kind) first (ap actOf to-record) f,
-          )
+      turns-race P′ first accessed = record { turned = turned; tasks-are = tasks-stay }
+        where
+          turned : (records k : ℕ) (B₀ : Buffers) → Run part records k → i < k → Unraced part records B₀ B T now i
+              → Turned part i records B₀ now (placed B P′) T (Raced first r)
+          turned records k B₀ R h U =
+              let J = arrives records k B₀ R h U in
+              let p = accessed (eventTrace (eventAt part)) i records (B₀ .places) J in
+              let f = first-met (firstOf rules (eventTrace (eventAt part)) r i) first (p .0) in (
+                record {
+                  reached = U .midway .reached;
+                  shown = shown-racing (J .facing) first f (p .1);
+                  places-room = omega (arith, p .1 .size, U .midway .shown .size, U .midway .places-room);
+                },
+                stops-here rules (eventTrace (eventAt part)) (lawful (eventAt part)) (fit (eventAt part)) i (U .none-raced) r (rank kind) first
+                    (ap actOf to-record) f,
+              )
 
       pub turns-accessed : (P′ : List ℕ) → Accessed rules layout (two wrote stood) (B .places) r (rank kind) i (now .strands - 1) P′ Nothing
           → Turns part i B T now (placed B P′) T (Go now)
-      turns-accessed P′ accessed records k B₀ R h U =
-          let tr = eventTrace (eventAt part) in
-          let p = accessed tr i records (B₀ .places) (arrives records k B₀ R h U) in
-          let own : recordOf (tr .act i) ≡ r = ap (λ a. recordOf (actOf a)) to-record in
-          let f : found rules tr (recordOf (tr .act i)) i ≡ false = rw own (found-none rules tr r i (nothing-met (firstOf rules tr r i) (p .0))) in
-          record {
-            midway = access-midway R h (U .midway) kind r to-record P′ (p .1);
-            none-raced = still-none rules tr (lawful (eventAt part)) (fit (eventAt part)) i (U .none-raced) f;
-          }
+      turns-accessed P′ accessed = record { turned = turned; tasks-are = tasks-stay }
+        where
+          turned : (records k : ℕ) (B₀ : Buffers) → Run part records k → i < k → Unraced part records B₀ B T now i
+              → Unraced part records B₀ (placed B P′) T now (suc i)
+          turned records k B₀ R h U =
+              let tr = eventTrace (eventAt part) in
+              let p = accessed tr i records (B₀ .places) (arrives records k B₀ R h U) in
+              let own : recordOf (tr .act i) ≡ r = ap (λ a. recordOf (actOf a)) to-record in
+              let f : found rules tr (recordOf (tr .act i)) i ≡ false = rw own (found-none rules tr r i (nothing-met (firstOf rules tr r i) (p .0))) in
+              record {
+                midway = access-midway R h (U .midway) kind r to-record P′ (p .1);
+                none-raced = still-none rules tr (lawful (eventAt part)) (fit (eventAt part)) i (U .none-raced) f;
+              }
 
     -- the last write is parallel: it is named, whatever stands
     pub turns-last : true ≡ heldAbove (B .labels) (B .places) r (now .strands - 1) → (first : ℕ) → NamesLastWrite (B .places) r first
@@ -169,11 +183,15 @@ module _ {part : List ℕ} {i : ℕ} {B : Buffers} {T : OpenTasks} {now : Now} (
 
     pub turns-moved : (L′ K′ : List ℕ) (T′ : OpenTasks) (next : Now) → Advances (ordersIn B) T now m (record { labels = L′; links = K′ }) T′ next
         → Turns part i B T now (moved B L′ K′) T′ (Go next)
-    turns-moved L′ K′ T′ next advances records k B₀ R h U =
+    turns-moved L′ K′ T′ next advances =
         let tr = eventTrace (eventAt part) in
         let own = recordOf (tr .act i) in
+        let A = rw its-move at advances in
         record {
-          midway = move-midway R h (U .midway) no-access L′ K′ T′ next (rw its-move at advances);
-          none-raced = still-none rules tr (lawful (eventAt part)) (fit (eventAt part)) i (U .none-raced)
-              (found-off rules tr own i (ap (λ a. onRecord own (actOf a)) no-access));
+          turned = λ records k B₀ R h U. record {
+            midway = move-midway R h (U .midway) no-access L′ K′ T′ next A;
+            none-raced = still-none rules tr (lawful (eventAt part)) (fit (eventAt part)) i (U .none-raced)
+                (found-off rules tr own i (ap (λ a. onRecord own (actOf a)) no-access));
+          };
+          tasks-are = A .tasks-are;
         }
