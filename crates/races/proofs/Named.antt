@@ -15,6 +15,7 @@ use Rattle.jobfile.specs.declared.event.Event.{Event}
 use Rattle.jobfile.specs.declared.event.Kind.the-variants.{Read}
 use Rattle.jobfile.specs.declared.event.Access.the-variants.{To}
 use Rattle.relation.specs.Parallel.{Parallel, Rooted}
+use Rattle.relation.specs.Strand.{strandAt}
 use Rattle.relation.proofs.Laws.{rooted-less}
 use Rattle.races.specs.Trace.{classOf}
 use Rattle.races.specs.Places.{held}
@@ -23,13 +24,13 @@ use Rattle.races.specs.Entries.{eventOr, strandOr, HasPlace}
 use Rattle.races.specs.Shown.{Shown}
 use Rattle.races.specs.Mark.{rank, actOf, isWrite, rules, layout, eventTrace}
 use Rattle.races.specs.Race.{conflict, Race}
-use Rattle.races.specs.Named.{First, Named}
+use Rattle.races.specs.Named.{LastWrite, Standing, First, Named}
 use Rattle.races.specs.Verdict.{lastWrite, standing, verdict, stopAt}
 use Rattle.races.proofs.Places.{stop-none}
 use Rattle.races.proofs.Records.{race-early}
-use Rattle.races.proofs.OneRace.{all-unraced, stop-quiet, verdict-earliest, verdict-none, one-race-only}
+use Rattle.races.proofs.OneRace.{all-unraced, stop-quiet, stop-within, verdict-earliest, verdict-none, one-race-only}
 use Rattle.races.proofs.Events.{access-of, clash-is, lawful, fit, tied}
-use Rattle.races.proofs.LastAndStanding.{last-write-is, standing-is, standing-read}
+use Rattle.races.proofs.LastAndStanding.{last-write-is, no-last-write, standing-is, no-standing, standing-read}
 
 module _ (ev : ℕ → Event) where
   -- a race is one of its record
@@ -154,16 +155,18 @@ module _ (ev : ℕ → Event) where
         λ free. v .1 (λ r m n l P. free m n l (on-race m n r P .0)),
       )
 
-  -- 01's four entries of a record, as the places show them while nothing has raced
+  -- 01's four entries of record r, by the definition, just before event n: "last write's event at r, its strand at 4,096 + r, standing
+  -- read's event at 8,192 + r, its strand at 12,288 + r; 4,294,967,295 is none, for an event and its strand alike"
   pub record Entries (n r : ℕ) (P : List ℕ) : Type 0 where
-    pub write : getD P r 0 ≡ eventOr (lastWrite ev r n)
-    pub write-strand : getD P (4096 + r) 0 ≡ strandOr (eventTrace ev .strand) (lastWrite ev r n)
-    pub read : getD P (8192 + r) 0 ≡ eventOr (standing ev r n)
-    pub read-strand : getD P (12288 + r) 0 ≡ strandOr (eventTrace ev .strand) (standing ev r n)
+    pub written : (w : ℕ) → LastWrite ev r n w → (getD P r 0 ≡ w) × (getD P (4096 + r) 0 ≡ strandAt (moves ev) w)
+    pub unwritten : ((w : ℕ) → ¬ LastWrite ev r n w) → (getD P r 0 ≡ 4294967295) × (getD P (4096 + r) 0 ≡ 4294967295)
+    pub read : (s : ℕ) → Standing ev r n s → (getD P (8192 + r) 0 ≡ s) × (getD P (12288 + r) 0 ≡ strandAt (moves ev) s)
+    pub unread : ((s : ℕ) → ¬ Standing ev r n s) → (getD P (8192 + r) 0 ≡ 4294967295) × (getD P (12288 + r) 0 ≡ 4294967295)
 
-  shown-entries : (n records : ℕ) (P₀ P : List ℕ) → secondIn rules (eventTrace ev) n ≡ none → Shown rules (eventTrace ev) layout n records P₀ P
-      → (r : ℕ) → r < records → Entries n r P
-  shown-entries n records P₀ P e S r l =
+  -- the places show them while nothing has raced
+  shown-entries : (n records : ℕ) (P₀ P : List ℕ) → Rooted (moves ev) n → secondIn rules (eventTrace ev) n ≡ none
+      → Shown rules (eventTrace ev) layout n records P₀ P → (r : ℕ) → r < records → Entries n r P
+  shown-entries n records P₀ P root e S r l =
       let stop = stop-none rules (eventTrace ev) r n (all-unraced rules (eventTrace ev) n e r) in
       let wrote : HasPlace layout records r 0 = record { on-record = l; below = omega arith } in
       let stands : HasPlace layout records r 1 = record { on-record = l; below = omega arith } in
@@ -171,14 +174,20 @@ module _ (ev : ℕ → Event) where
       let ws : 8192 * 0 + r + 4096 ≡ 4096 + r = omega arith in
       let s : 8192 * 1 + r ≡ 8192 + r = omega arith in
       let ss : 8192 * 1 + r + 4096 ≡ 12288 + r = omega arith in
+      let write : getD P r 0 ≡ eventOr (lastWrite ev r n) = (rw w at (S .event r 0 wrote)) ∙ rw stop in
+      let write-strand : getD P (4096 + r) 0 ≡ strandOr (strandAt (moves ev)) (lastWrite ev r n) = (rw ws at (S .its-strand r 0 wrote)) ∙ rw stop in
+      let read : getD P (8192 + r) 0 ≡ eventOr (standing ev r n) = (rw s at (S .event r 1 stands)) ∙ rw stop in
+      let read-strand : getD P (12288 + r) 0 ≡ strandOr (strandAt (moves ev)) (standing ev r n) = (rw ss at (S .its-strand r 1 stands)) ∙ rw stop in
       record {
-        write = (rw w at (S .event r 0 wrote)) ∙ rw stop;
-        write-strand = (rw ws at (S .its-strand r 0 wrote)) ∙ rw stop;
-        read = (rw s at (S .event r 1 stands)) ∙ rw stop;
-        read-strand = (rw ss at (S .its-strand r 1 stands)) ∙ rw stop;
+        written = λ m W. let z = last-write-is ev r n m .1 W in (write ∙ ap eventOr z, write-strand ∙ ap (strandOr (strandAt (moves ev))) z);
+        unwritten = λ f. let z = no-last-write ev r n .1 f in (write ∙ ap eventOr z, write-strand ∙ ap (strandOr (strandAt (moves ev))) z);
+        read = λ m D. let z = standing-is ev r n m root .1 D in (read ∙ ap eventOr z, read-strand ∙ ap (strandOr (strandAt (moves ev))) z);
+        unread = λ f. let z = no-standing ev r n root .1 f in (read ∙ ap eventOr z, read-strand ∙ ap (strandOr (strandAt (moves ev))) z);
       }
 
   -- where judging k events stops, nothing has raced: so the buffer shows the last write and the standing read of every record
-  pub stop-entries : (k records : ℕ) (P₀ P : List ℕ) → Shown rules (eventTrace ev) layout (stopAt ev k) records P₀ P
+  pub stop-entries : (k records : ℕ) (P₀ P : List ℕ) → Rooted (moves ev) k → Shown rules (eventTrace ev) layout (stopAt ev k) records P₀ P
       → (r : ℕ) → r < records → Entries (stopAt ev k) r P
-  stop-entries k records P₀ P = shown-entries (stopAt ev k) records P₀ P (stop-quiet rules (eventTrace ev) k)
+  stop-entries k records P₀ P root =
+      shown-entries (stopAt ev k) records P₀ P (rooted-less (moves ev) (stopAt ev k) k (stop-within rules (eventTrace ev) k) root)
+      (stop-quiet rules (eventTrace ev) k)
