@@ -145,7 +145,8 @@ module _ (ev : ℕ → Event) where
   -- no second pair fits
   pub named-only : (k i j r i′ j′ r′ : ℕ) → Rooted (moves ev) k → Named ev k i j r → Named ev k i′ j′ r′ → (i ≡ i′) × (j ≡ j′) × (r ≡ r′)
   named-only k i j r i′ j′ r′ root N M =
-      one-race-only rules (eventTrace ev) (lawful ev) (fit ev) (Parallel (moves ev)) k (tied ev k root) i j r i′ j′ r′ (named-to k root i j r N) (named-to k root i′ j′ r′ M)
+      one-race-only rules (eventTrace ev) (lawful ev) (fit ev) (Parallel (moves ev)) k (tied ev k root) i j r i′ j′ r′
+      (named-to k root i j r N) (named-to k root i′ j′ r′ M)
 
   -- the verdict is clean exactly if there is no race
   pub verdict-clean : (k : ℕ) → Rooted (moves ev) k → (verdict ev k ≡ clean) ↔ RaceFree k

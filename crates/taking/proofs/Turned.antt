@@ -151,7 +151,8 @@ module _ {part : List ℕ} {i : ℕ} {B : Buffers} {T : OpenTasks} {now : Now} (
               let tr = eventTrace (eventAt part) in
               let p = accessed tr i records (B₀ .places) (arrives records k B₀ R h U) in
               let own : recordOf (tr .act i) ≡ r = ap (λ a. recordOf (actOf a)) to-record in
-              let f : found rules tr (recordOf (tr .act i)) i ≡ false = rw own (found-none rules tr r i (nothing-met (firstOf rules tr r i) (p .0))) in
+              let f : found rules tr (recordOf (tr .act i)) i ≡ false =
+              rw own (found-none rules tr r i (nothing-met (firstOf rules tr r i) (p .0))) in
               record {
                 midway = access-midway R h (U .midway) kind r to-record P′ (p .1);
                 none-raced = still-none rules tr (lawful (eventAt part)) (fit (eventAt part)) i (U .none-raced) f;
