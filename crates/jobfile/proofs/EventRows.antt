@@ -125,7 +125,7 @@ module _ {records kind second number depth before after : ℕ} where
   says-12 : AtEvent records kind second number depth before after 12 → (before ≡ 4096) × (after ≡ 4097)
   says-12 (row-12 c d) = (c, d)
 
-  in-range : {k : ℕ} → AtEvent records kind second number depth before after k → (8 ≤ k) × (k ≤ 12)
+  pub in-range : {k : ℕ} → AtEvent records kind second number depth before after k → (8 ≤ k) × (k ≤ 12)
   in-range (row-8 c) = (omega arith, omega arith)
   in-range (row-9 c) = (omega arith, omega arith)
   in-range (row-10 c d) = (omega arith, omega arith)

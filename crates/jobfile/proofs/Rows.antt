@@ -12,7 +12,7 @@ use native.Mathlib.Decide.{decLe}
 use native.Mathlib.Omega.{arith}
 use native.Mathlib.Numerals.{add-one}
 use borrow.Author.Tests.{ltb-true, ltb-false}
-use Rattle.trailer.specs.Table.{Nowhere, Table, NoRow}
+use Rattle.trailer.specs.Table.{Nowhere, Table, Given, NoRow}
 use Rattle.trailer.specs.Rows.{distanceOf, countOf, recordsOf, startOf, headTable}
 use Rattle.trailer.specs.Trailer.{headOf}
 use Rattle.trailer.specs.declared.Head.{Head}
@@ -31,7 +31,7 @@ use Rattle.jobfile.specs.File.{afterTrace, afterHead, checkOf, refusalNu
 use Rattle.jobfile.specs.Rows.{Malformed, row-8, kindAt, secondAt, numberAt, rowAt, eventRows, traceTable}
 use Rattle.jobfile.specs.Rows.{partIn, jobIn, readTable, ReadingExact, ReadingNumbers}
 use Rattle.jobfile.proofs.Turns.{trace-at, trace-end}
-use Rattle.jobfile.proofs.EventRows.{seen, LeadsOn, leads-on}
+use Rattle.jobfile.proofs.EventRows.{seen, in-range, LeadsOn, leads-on}
 
 module _ (records : ℕ) (part : List ℕ) where
   abbrev mv : ℕ → Move
@@ -47,6 +47,18 @@ module _ (records : ℕ) (part : List ℕ) where
     pub shallow : depthAt mv i ≤ 64
     pub few : begunAt mv i ≤ 4096
     pub passed : (m : ℕ) → m < i → (n : ℕ) → ¬ rowAt records part m n
+
+  clear-start : Clear 0
+  unfolding tasksAt begunAt
+  clear-start = record { root = omega arith; shallow = omega arith; few = omega arith; passed = λ m h. absurd (omega arith) }
+
+  clear-next : (i : ℕ) (us : List Bool) (n : ℕ) → Clear i → LeadsAt i (go us n) → Clear (suc i)
+  unfolding tasksAt begunAt
+  clear-next i us n C (a, b, r, l, f, none) = record { root = rw a at r; shallow = rw a at l; few = rw b at f; passed = λ m. passed m (decLe i m) }
+    where
+      passed : (m : ℕ) → Dec (i ≤ m) → m < suc i → (k : ℕ) → ¬ rowAt records part m k
+      passed m (yes g) l k = let e : i ≡ m = omega arith in rw (← e) (none k)
+      passed m (no g) l k = C .passed m (omega arith) k
 
   module _ (count : ℕ) where
     abbrev pub TraceEnds : Traced → Type 0
@@ -71,12 +83,7 @@ module _ (records : ℕ) (part : List ℕ) where
     turned : (i : ℕ) → i < count → Clear i → (x : Next) → LeadsAt i x
         → (Clear (suc i) → TraceEnds (rest (i + 1) (tasksAt mv (suc i)) (begunAt mv (suc i)))) → TraceEnds (resume x i (λ us n. rest (i + 1) us n))
     unfolding tasksAt begunAt
-    turned i h C (go us n) (a, b, r, l, f, none) next =
-        rw (a, b) (next (record { root = rw a at r; shallow = rw a at l; few = rw b at f; passed = λ m. passed m (decLe i m) }))
-      where
-        passed : (m : ℕ) → Dec (i ≤ m) → m < suc i → (k : ℕ) → ¬ rowAt records part m k
-        passed m (yes g) l k = let e : i ≡ m = omega arith in rw (← e) (none k)
-        passed m (no g) l k = C .passed m (omega arith) k
+    turned i h C (go us n) l next = rw (l .0, l .1) (next (clear-next i us n C l))
     turned i h C (stop k) (p, r, least) next =
         inr (k, i, refl, p, inl (record { holds = (h, r); earliest = λ n m x. earliest n m (decLe i m) (x .1); least = λ n x. least n (x .1) }))
       where
@@ -84,27 +91,44 @@ module _ (records : ℕ) (part : List ℕ) where
         earliest n m (yes g) x = g
         earliest n m (no g) x = absurd (C .passed m (omega arith) n x)
 
-    module _ (some : 0 < records) (size : length part ≡ 4 * count) where
+    module _ (some : 0 < records) where
       led : (i : ℕ) → Clear i → LeadsAt i (stepOf records (tasksAt mv i) (begunAt mv i) (decodeAt part (4 * i)))
       unfolding eventAt
       led i C =
           leads-on records (kindAt part i) (secondAt part i) (numberAt part i) (tasksAt mv i) (begunAt mv i) (C .root) (C .shallow) (C .few) some
           (decodeAt part (4 * i)) (seen (kindAt part i) (secondAt part i) (numberAt part i))
 
-      from : (left i : ℕ) → i + left ≡ count → Clear i → TraceEnds (rest i (tasksAt mv i) (begunAt mv i))
-      from zero i e C =
-          let z : i ≡ count = omega arith in
-          rw (trace-end records i (tasksAt mv i) (begunAt mv i) part (omega arith), z) (finished (rw (← z) C))
-      from (suc left) i e C =
-          rw (trace-at records i (tasksAt mv i) (begunAt mv i) part (omega arith))
-          (turned i (omega arith) C (stepOf records (tasksAt mv i) (begunAt mv i) (decodeAt part (4 * i))) (led i C)
-          (λ D. rw (add-one i) (from left (suc i) (omega arith) D)))
+      -- where no row holds, the bounds hold before every event
+      pub clear : NoRow (traceTable records count part) → (i : ℕ) → i ≤ count → Clear i
+      unfolding begunAt
+      clear none zero h = clear-start
+      clear none (suc i) h =
+          let C = clear none i (omega arith) in by (stepOf records (tasksAt mv i) (begunAt mv i) (decodeAt part (4 * i))) C (led i C)
+        where
+          by : (x : Next) → Clear i → LeadsAt i x → Clear (suc i)
+          by (go us n) C l = clear-next i us n C l
+          by (stop k) C l = absurd (none .0 k i (h, l .1))
 
-      -- the check of the events
-      pub trace-ends : TraceEnds (traceOf records part)
-      unfolding tasksAt begunAt
-      trace-ends =
-          from count 0 (omega arith) (record { root = omega arith; shallow = omega arith; few = omega arith; passed = λ m h. absurd (omega arith) })
+      module _ (size : length part ≡ 4 * count) where
+        from : (left i : ℕ) → i + left ≡ count → Clear i → TraceEnds (rest i (tasksAt mv i) (begunAt mv i))
+        from zero i e C =
+            let z : i ≡ count = omega arith in
+            rw (trace-end records i (tasksAt mv i) (begunAt mv i) part (omega arith), z) (finished (rw (← z) C))
+        from (suc left) i e C =
+            rw (trace-at records i (tasksAt mv i) (begunAt mv i) part (omega arith))
+            (turned i (omega arith) C (stepOf records (tasksAt mv i) (begunAt mv i) (decodeAt part (4 * i))) (led i C)
+            (λ D. rw (add-one i) (from left (suc i) (omega arith) D)))
+
+        -- the check of the events
+        pub trace-ends : TraceEnds (traceOf records part)
+        unfolding tasksAt begunAt
+        trace-ends = from count 0 (omega arith) clear-start
+
+-- the rows of a trace have the numbers 8 to 13
+pub trace-range : (records count : ℕ) (part : List ℕ) (n m : ℕ) → Given (traceTable records count part) n m → (8 ≤ n) × (n ≤ 13)
+trace-range records count part n m (inl F) = let r = in-range (F .holds .1) in (omega arith, omega arith)
+trace-range records count part n m (inr (z, inl F)) = let e = F .holds .0 in (omega arith, omega arith)
+trace-range records count part n m (inr (z, inr (y, g))) = absurd g
 
 abbrev refuse : ℕ → ℕ → Checked
 refuse n m = Refused (refusalOf n m)
