@@ -1,6 +1,6 @@
 -- Rows 8 to 13 of a whole trace, and that reading is exact: a file is refused by the row that is given, and accepted where none holds.
 -- Assumes nothing.
-use Prim.Native.Nat.{ℕ, zero, suc, _+_, _*_, _-_, _≤_, _<_}
+use Prim.Native.Nat.{ℕ, zero, suc, _+_, _*_, _≤_, _<_}
 use mathlib.Core.Path.{_≡_, refl}
 use mathlib.Core.Logic.{inl, inr}
 use mathlib.Core.List.{List}
@@ -13,11 +13,11 @@ use native.Mathlib.Omega.{arith}
 use native.Mathlib.Numerals.{add-one}
 use borrow.Author.Tests.{ltb-true, ltb-false}
 use Rattle.trailer.specs.Table.{Nowhere, Table, Given, NoRow}
-use Rattle.trailer.specs.Rows.{distanceOf, countOf, recordsOf, startOf, headTable}
+use Rattle.trailer.specs.Rows.{countOf, recordsOf, startOf, headTable}
 use Rattle.trailer.specs.Trailer.{headOf}
 use Rattle.trailer.specs.declared.Head.{Head}
 use Rattle.trailer.proofs.Table.{first-row, not-row, given-front, given-back, none-both, none-behind, Ends, exact, exact-numbers}
-use Rattle.trailer.proofs.Rows.{HeadEnds, head-ends}
+use Rattle.trailer.proofs.Rows.{HeadEnds, head-ends, words}
 use Rattle.jobfile.specs.declared.event.Move.{Move}
 use Rattle.jobfile.specs.declared.tasks.Traced.{Traced}
 use Rattle.jobfile.specs.declared.tasks.Traced.the-variants.{Whole, Refused as TraceRefused}
@@ -134,17 +134,6 @@ abbrev refuse : ℕ → ℕ → Checked
 refuse n m = Refused (refusalOf n m)
 
 module _ (file : List ℕ) where
-  -- the words of a trailer that no row refuses fit the file
-  sizes-fit : NoRow (headTable file) → (0 < recordsOf file) × (startOf file + 4 * countOf file ≤ length file)
-  sizes-fit none =
-      let some : ¬ (recordsOf file ≡ 0) = λ e. none .1 .1 .0 3 0 (refl, refl, inl e) in
-      let inside : ¬ (length file - 16 < distanceOf file) = λ l. none .1 .1 .1 .1 .1 .0 6 0 (refl, refl, l) in
-      (omega (arith, some), omega (arith, inside, whole (decLe (4 * countOf file) (distanceOf file))))
-    where
-      whole : Dec (4 * countOf file ≤ distanceOf file) → 4 * countOf file ≤ distanceOf file
-      whole (yes l) = l
-      whole (no l) = absurd (none .1 .1 .1 .1 .0 5 0 (refl, refl, λ e. omega arith))
-
   abbrev traced : Table
   traced = traceTable (recordsOf file) (countOf file) (partIn file)
 
@@ -162,9 +151,9 @@ module _ (file : List ℕ) where
 
       by-head : (h : Head) → HeadEnds file (headTable file) h → ReadEnds (afterHead h file)
       by-head h (inl (e, none)) =
-          let f = sizes-fit none in
+          let w = words file none in
           let size = length-take-le (4 * countOf file) (drop (startOf file) file) (omega (arith, length-drop (startOf file) file)) in
-          rw e (by-trace none (traceOf (recordsOf file) (partIn file)) (trace-ends (recordsOf file) (partIn file) (countOf file) (f .0) size))
+          rw e (by-trace none (traceOf (recordsOf file) (partIn file)) (trace-ends (recordsOf file) (partIn file) (countOf file) (w .some) size))
       by-head h (inr (k, e, p, g)) = rw e (inr (k, 0, refl, p, given-front (headTable file) traced k 0 g))
 
   -- where no row holds, every event is well formed

@@ -11,7 +11,7 @@ use native.Mathlib.Omega.{arith}
 use borrow.Author.Tests.{eqb-true, eqb-false, ltb-true, ltb-false}
 use Rattle.trailer.specs.declared.Head.{Head}
 use Rattle.trailer.specs.declared.Head.the-variants.{Whole, Refused}
-use Rattle.trailer.specs.Trailer.{mark, startsWith, printable, trailerFault, headNamed, headSized, headOf}
+use Rattle.trailer.specs.Trailer.{mark, startsWith, printable, trailerFault, headNamed, headSized, headOf, HeadFits}
 use Rattle.trailer.specs.Table.{Rows, row, Nowhere, Table, Given, NoRow}
 use Rattle.trailer.specs.Rows.{distanceOf, countOf, recordsOf, startOf, RecordCountOut, EventCountOver, ByteOut, NameOut, headTable}
 use Rattle.trailer.proofs.Table.{first-row, not-row}
@@ -56,6 +56,21 @@ printed (x ∷ xs) e o = by (ltb x 32) refl (ltb 126 x) refl e (printed xs) (o .
     by false p false q z rest zero l (inr o) = omega (arith, ltb-false 126 x q)
     by false p false q z rest (suc i) l o = rest z (i, omega arith, o)
 
+-- numbers that are not apart are the same
+stable : (m n : ℕ) → ¬ ¬ (m ≡ n) → m ≡ n
+stable m n f = by (eqb m n) refl
+  where
+    by : (b : Bool) → eqb m n ≡ b → m ≡ n
+    by true q = eqb-true m n q
+    by false q = absurd (f (eqb-false m n q))
+
+mark-stable : (xs : List ℕ) → length xs ≡ 4 → ¬ ¬ (xs ≡ mark) → xs ≡ mark
+mark-stable xs l f = by (startsWith xs mark) refl
+  where
+    by : (b : Bool) → startsWith xs mark ≡ b → xs ≡ mark
+    by true q = starts-same xs mark q l
+    by false q = absurd (f (unmarked xs q))
+
 -- within the bounds of rows 3 and 7
 pub count-in : (n : ℕ) → ¬ (n ≡ 0) → n ≤ 4096 → ¬ RecordCountOut n
 count-in n z h (inl e) = z e
@@ -67,6 +82,13 @@ name-in name h e (inr b) = printed name e b
 
 pub name-out : (name : List ℕ) → printable name ≡ false → NameOut name
 name-out name e = inr (unprintable name e)
+
+name-printable : (name : List ℕ) → ¬ NameOut name → printable name ≡ true
+name-printable name f = by (printable name) refl
+  where
+    by : (b : Bool) → printable name ≡ b → printable name ≡ true
+    by true q = q
+    by false q = absurd (f (name-out name q))
 
 module _ (file : List ℕ) where
   abbrev before : ℕ
@@ -161,3 +183,66 @@ module _ (file : List ℕ) where
           let four : length last ≡ 4 = omega (arith, length-drop (length file - 4) file, ltb-false (length file) 16 p) in
           let marked : Nowhere (row 2 (¬ (last ≡ mark))) = not-row (λ n. n (starts-same last mark q four)) in
           past (row 1 (length file < 16)) (row 2 (¬ (last ≡ mark)) ∷ sizes) _ (long p) (past (row 2 (¬ (last ≡ mark))) sizes _ marked sized)
+
+  -- what a file says of which no row of the head holds
+  pub record Words : Type 0 where
+    pub long : 16 ≤ length file
+    pub marked : drop (length file - 4) file ≡ mark
+    pub some : 0 < recordsOf file
+    pub few : recordsOf file ≤ 4096
+    pub not-over : countOf file ≤ 1000000
+    pub same : distanceOf file ≡ 4 * countOf file
+    pub inside : distanceOf file ≤ before
+    pub short : startOf file ≤ 64
+    pub letters : printable named ≡ true
+
+  pub words : NoRow (headTable file) → Words
+  words none =
+      let under : ¬ (length file < 16) = λ l. none .0 1 0 (refl, refl, l) in
+      let zero : ¬ (recordsOf file ≡ 0) = λ e. none .1 .1 .0 3 0 (refl, refl, inl e) in
+      let many : ¬ (4096 < recordsOf file) = λ l. none .1 .1 .0 3 0 (refl, refl, inr l) in
+      let over : ¬ (1000000 < countOf file) = λ l. none .1 .1 .1 .0 4 0 (refl, refl, l) in
+      let outside : ¬ (before < distanceOf file) = λ l. none .1 .1 .1 .1 .1 .0 6 0 (refl, refl, l) in
+      let out : ¬ NameOut named = λ o. none .1 .1 .1 .1 .1 .1 .0 7 0 (refl, refl, o) in
+      let size : length (drop (length file - 4) file) ≡ 4 = omega (arith, length-drop (length file - 4) file, under) in
+      record {
+        long = omega (arith, under);
+        marked = mark-stable (drop (length file - 4) file) size (λ f. none .1 .0 2 0 (refl, refl, f));
+        some = omega (arith, zero);
+        few = omega (arith, many);
+        not-over = omega (arith, over);
+        same = stable (distanceOf file) (4 * countOf file) (λ f. none .1 .1 .1 .1 .0 5 0 (refl, refl, f));
+        inside = omega (arith, outside);
+        short = name-short (startOf file) (length-take-le (startOf file) file (omega arith)) out;
+        letters = name-printable named out;
+      }
+    where
+      name-short : (n : ℕ) → length named ≡ n → ¬ NameOut named → n ≤ 64
+      name-short n e out = let l : ¬ (64 < length named) = λ h. out (inl h) in omega (arith, l)
+
+  -- a head that is whole is that of the trailer's words
+  pub head-words : (start count records : ℕ) → headOf file ≡ Whole start count records
+      → (start ≡ startOf file) × (count ≡ countOf file) × (records ≡ recordsOf file) × Words
+  head-words start count records e = by head-ends
+    where
+      by : HeadEnds (headTable file) (headOf file) → (start ≡ startOf file) × (count ≡ countOf file) × (records ≡ recordsOf file) × Words
+      by (inl (w, none)) = (cc, cc, cc, words none)
+      by (inr (k, w, p, g)) = let z : _≡_ {A = ℕ} 0 1 = cc in absurd (omega arith)
+
+  up-to-7 : (k : ℕ) → Given (headTable file) k 0 → k ≤ 7
+  up-to-7 k (inl F) = omega (arith, F .holds .0)
+  up-to-7 k (inr (a, inl F)) = omega (arith, F .holds .0)
+  up-to-7 k (inr (a, inr (b, inl F))) = omega (arith, F .holds .0)
+  up-to-7 k (inr (a, inr (b, inr (c, inl F)))) = omega (arith, F .holds .0)
+  up-to-7 k (inr (a, inr (b, inr (c, inr (d, inl F))))) = omega (arith, F .holds .0)
+  up-to-7 k (inr (a, inr (b, inr (c, inr (d, inr (e, inl F)))))) = omega (arith, F .holds .0)
+  up-to-7 k (inr (a, inr (b, inr (c, inr (d, inr (e, inr (f, inl F))))))) = omega (arith, F .holds .0)
+  up-to-7 k (inr (a, inr (b, inr (c, inr (d, inr (e, inr (f, inr (g, x)))))))) = absurd x
+
+  -- the bounds of the head
+  pub head-fits : HeadFits (headOf file) (length file)
+  head-fits = by (headOf file) head-ends
+    where
+      by : (h : Head) → HeadEnds (headTable file) h → HeadFits h (length file)
+      by h (inl (e, none)) = let w = words none in rw e (w .short, omega arith, w .not-over, w .some, w .few)
+      by h (inr (k, e, p, g)) = rw e (p, up-to-7 k g)
