@@ -1,25 +1,36 @@
 -- What a call of `judge` that is taken answers: the verdict of the events, told in the paper's numbers. Assumes nothing.
 use mathlib.Core.Path.{_≡_, refl, sym, _∙_, subst}
 use mathlib.Core.List.{List}
+use mathlib.Core.Option.{Option, none, some, Option·getD}
 use Prim.Native.Nat.{ℕ, _≤_, _<_}
 use native.Mathlib.Omega.{arith}
 use borrow.Author.Tests.{le-ltb}
 use Rattle.jobfile.specs.Trace.{begunAt}
 use Rattle.jobfile.specs.File.{eventPart}
 use Rattle.jobfile.specs.Accepted.{AcceptedTrace}
+use Rattle.jobfile.specs.declared.event.Event.{Event}
 use Rattle.jobfile.proofs.Checking.{accepted-part}
 use Rattle.relation.specs.Parallel.{Rooted}
 use Rattle.races.specs.Race.{Race as IsRace}
-use Rattle.races.specs.Records.{Verdict, clean, race}
+use Rattle.races.specs.Records.{Verdict, clean, race, secondIn, verdictAt, verdictIn, stopIn}
+use Rattle.races.specs.Mark.{rules, eventTrace}
 use Rattle.races.specs.Named.{Named}
-use Rattle.races.specs.Verdict.{verdict}
+use Rattle.races.specs.Verdict.{verdict, stopAt}
 use Rattle.races.proofs.Named.{verdict-race, verdict-clean, named-only}
 use Rattle.taking.specs.Buffers.{Buffers}
 use Rattle.judging.specs.declared.Answer.{Answer}
 use Rattle.judging.specs.Answers.{answerWith, judgedOf, judgeFault, judgeOf, judgeWith}
+use Rattle.judging.specs.Leaves.{shownAt}
 use Rattle.judging.specs.Gives.{JudgeGives}
 use Rattle.judging.specs.Terms.{eventsIn, movesIn, Judgeable, Names, SaysClean}
 use Rattle.judging.proofs.Room.{room}
+
+-- what an answer says of a verdict
+verdict-names : (v : Verdict) (a b c i j q : ℕ) → v ≡ race i j q → Names (answerWith v a b c) i j q
+verdict-names v a b c i j q e = rw e (record { raced = refl; first = refl; second = refl; number = refl })
+
+verdict-says-clean : (v : Verdict) (a b c : ℕ) → v ≡ clean → SaysClean (answerWith v a b c)
+verdict-says-clean v a b c e = rw e (record { taken = refl; raced = refl; first = refl; second = refl; number = refl })
 
 -- the verdict behind an answer
 named-verdict : (v : Verdict) (a b c i j q : ℕ) → Names (answerWith v a b c) i j q → v ≡ race i j q
@@ -30,11 +41,14 @@ clean-verdict : (v : Verdict) (a b c : ℕ) → SaysClean (answerWith v a b c) �
 clean-verdict clean a b c C = refl
 clean-verdict (race x y z) a b c C = absurd (omega (arith, C .raced))
 
-verdict-names : (v : Verdict) (a b c i j q : ℕ) → v ≡ race i j q → Names (answerWith v a b c) i j q
-verdict-names v a b c i j q e = rw e (record { raced = refl; first = refl; second = refl; number = refl })
+-- where judging stops is what the answer shows
+stop-of : (ev : ℕ → Event) (k a b c : ℕ) (o : Option ℕ) → Option·getD o k ≡ shownAt k (answerWith (verdictAt rules (eventTrace ev) o) a b c)
+stop-of ev k a b c none = refl
+stop-of ev k a b c (some j) = refl
 
-verdict-says-clean : (v : Verdict) (a b c : ℕ) → v ≡ clean → SaysClean (answerWith v a b c)
-verdict-says-clean v a b c e = rw e (record { taken = refl; raced = refl; first = refl; second = refl; number = refl })
+pub stop-shown : (ev : ℕ → Event) (k : ℕ) → stopAt ev k ≡ shownAt k (judgedOf ev k)
+unfolding judgedOf verdictIn stopIn
+stop-shown ev k = stop-of ev k _ _ _ (secondIn rules (eventTrace ev) k)
 
 module _ (file : List ℕ) (k : ℕ) (B₀ : Buffers) (T : Judgeable file k B₀) where
   accepted-events : AcceptedTrace (T .job .records) (T .job .events) (T .job .strands) (eventPart file)
