@@ -4,7 +4,7 @@ use mathlib.Core.List.{List}
 use mathlib.Core.Option.{Option, none, some, Option·getD}
 use Prim.Native.Nat.{ℕ, _≤_, _<_}
 use native.Mathlib.Omega.{arith}
-use borrow.Author.Tests.{le-ltb}
+use lib.ListN.{length}
 use Rattle.jobfile.specs.Trace.{begunAt}
 use Rattle.jobfile.specs.File.{eventPart}
 use Rattle.jobfile.specs.Accepted.{AcceptedTrace}
@@ -23,7 +23,7 @@ use Rattle.judging.specs.Answers.{answerWith, judgedOf, judgeFault, judg
 use Rattle.judging.specs.Leaves.{shownAt}
 use Rattle.judging.specs.Gives.{JudgeGives}
 use Rattle.judging.specs.Terms.{eventsIn, movesIn, Judgeable, Names, SaysClean}
-use Rattle.judging.proofs.Room.{room}
+use Rattle.judging.proofs.Faults.{no-fault as passes}
 
 -- what an answer says of a verdict
 verdict-names : (v : Verdict) (a b c i j q : ℕ) → v ≡ race i j q → Names (answerWith v a b c) i j q
@@ -60,17 +60,15 @@ module _ (file : List ℕ) (k : ℕ) (B₀ : Buffers) (T : Judgeable file k B₀
   pub few : (n : ℕ) → n ≤ k → begunAt (movesIn file) n ≤ 4096
   few n h = accepted-events .few n (omega (arith, T .within))
 
-  no-fault : (labels links places : ℕ) → 8192 ≤ labels → 16384 ≤ links → 16384 ≤ places
-      → judgeFault (T .job .events) (T .job .strands) k labels links places ≡ 0
-  unfolding judgeFault
-  no-fault labels links places f g h =
+  no-fault : judgeFault (T .job .events) (T .job .strands) k (length (B₀ .labels)) (length (B₀ .links)) (length (B₀ .places)) ≡ 0
+  no-fault =
       let s : T .job .strands ≤ 4096 = omega (arith, accepted-events .few (T .job .events) (omega arith), accepted-events .all) in
-      simp (le-ltb (T .job .events) k (T .within), le-ltb labels 8192 f, le-ltb links 16384 g, le-ltb places 16384 h, room (T .job .strands) s)
+      sym (passes _ _ _ _ _ _ (T .within) (T .labels-fit) (T .links-fit) (T .places-fit) s)
 
   -- so the answer is that of the events
   judged : judgeWith file k B₀ ≡ judgedOf (eventsIn file) k
   unfolding judgeOf
-  judged = rw (T .accepted, no-fault _ _ _ (T .labels-fit) (T .links-fit) (T .places-fit))
+  judged = rw (T .accepted, no-fault)
 
   -- the rules name one pair
   pub one-pair : (i j q i′ j′ q′ : ℕ) → Named (eventsIn file) k i j q → Named (eventsIn file) k i′ j′ q′ → (i ≡ i′) × (j ≡ j′) × (q ≡ q′)
