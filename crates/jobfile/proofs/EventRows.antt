@@ -1,7 +1,7 @@
 -- Rows 8 to 12 at one event: decoding is exact, and an event goes on where no row holds and stops by the least that does. Assumes nothing.
 use Prim.Native.Nat.{ℕ, suc, _+_, _≤_, _<_}
 use mathlib.Core.Path.{_≡_, refl, subst}
-use mathlib.Core.Logic.{inl, inr}
+use mathlib.Core.Logic.{inl, inr, _↔_}
 use mathlib.Core.List.{List, [], _∷_}
 use mathlib.Core.Bool.{Bool, true, false, cond}
 use lib.ListN.{length}
@@ -19,7 +19,7 @@ use Rattle.jobfile.specs.declared.coding.Decoded.the-variants.{Event as 
 use Rattle.jobfile.specs.Coding.{eventOf}
 use Rattle.jobfile.specs.Trace.{eventIn, tasksNext, begins}
 use Rattle.jobfile.specs.Tasks.{Next, go, stop, recordFault, taskFault, moveOn, stepOn, stepOf}
-use Rattle.jobfile.specs.Rows.{Malformed, Coded, DecodingExact, AtEvent, row-8, row-9, row-10, row-11, row-12}
+use Rattle.jobfile.specs.Rows.{Malformed, Coded, AtEvent, row-8, row-9, row-10, row-11, row-12}
 
 -- an event of these fields is well formed
 well-formed : (kind second number : ℕ) → 1 ≤ kind → kind ≤ 5 → second ≡ 0 → (kind ≤ 3 → number ≡ 0) → ¬ Malformed kind second number
@@ -82,11 +82,12 @@ module _ (kind second number : ℕ) where
   malformed-is (An e) c m = absurd (formed e c m)
   malformed-is (Unread k) (e, c) m = rw e
 
-  pub decoding-exact : DecodingExact kind second number
-  decoding-exact = record {
-    event = λ e. (λ q. subst (Seen kind second number) q seen, coded-is e);
-    refusal = λ k. (λ q. subst (Seen kind second number) q seen, λ c. rw (c .0) (malformed-is (eventOf kind second number) seen (c .1)));
-  }
+  -- Decoding is exact, for every three fields.
+  pub decoded-event : (e : Event) → (eventOf kind second number ≡ An e) ↔ Coded kind second number e
+  decoded-event e = (λ q. subst (Seen kind second number) q seen, coded-is e)
+
+  pub decoded-refusal : (k : ℕ) → (eventOf kind second number ≡ Unread k) ↔ ((k ≡ 8) × Malformed kind second number)
+  decoded-refusal k = (λ q. subst (Seen kind second number) q seen, λ c. rw (c .0) (malformed-is (eventOf kind second number) seen (c .1)))
 
 begins-small : (m : Move) (tasks : List Bool) → begins m tasks ≤ 1
 begins-small Opens tasks = omega arith

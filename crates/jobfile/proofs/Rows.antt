@@ -12,7 +12,7 @@ use native.Mathlib.Decide.{decLe}
 use native.Mathlib.Omega.{arith}
 use native.Mathlib.Numerals.{add-one}
 use borrow.Author.Tests.{ltb-true, ltb-false}
-use Rattle.trailer.specs.Table.{Nowhere, Table, Given, NoRow}
+use Rattle.trailer.specs.Table.{Nowhere, Table, Given, NoRow, Exact, ExactNumbers}
 use Rattle.trailer.specs.Rows.{countOf, recordsOf, startOf, headTable}
 use Rattle.trailer.specs.Trailer.{headOf}
 use Rattle.trailer.specs.declared.Head.{Head}
@@ -29,7 +29,7 @@ use Rattle.jobfile.specs.Trace.{eventAt, moves, tasksAt, depthAt, begunA
 use Rattle.jobfile.specs.Tasks.{Next, go, stop, stepOf, resume, finish, traceFrom, traceOf}
 use Rattle.jobfile.specs.File.{afterTrace, afterHead, checkOf, refusalNumber, refusalEvent}
 use Rattle.jobfile.specs.Rows.{Malformed, row-8, kindAt, secondAt, numberAt, rowAt, eventRows, traceTable}
-use Rattle.jobfile.specs.Rows.{partIn, jobIn, readTable, ReadingExact, ReadingNumbers}
+use Rattle.jobfile.specs.Rows.{partIn, jobIn, readTable}
 use Rattle.jobfile.proofs.Turns.{trace-at, trace-end}
 use Rattle.jobfile.proofs.EventRows.{seen, in-range, LeadsOn, leads-on}
 
@@ -161,11 +161,12 @@ module _ (file : List ℕ) where
       → (m : ℕ) → m < countOf file → ¬ Malformed (kindAt (partIn file) m) (secondAt (partIn file) m) (numberAt (partIn file) m)
   events-read none m h c = none-behind (headTable file) traced none .0 8 m (h, row-8 c)
 
-  pub reading-exact : ReadingExact file
+  -- Reading is exact, for every byte string.
+  pub reading-exact : Exact (readTable file) (Accepted (jobIn file)) (λ n m. Refused (refusalOf n m)) (checkOf file)
   reading-exact =
       exact (readTable file) (Accepted (jobIn file)) refuse (checkOf file) refusalNumber refusalEvent (λ n m. (refl, refl))
       (λ n m e. let z : _≡_ {A = ℕ} 0 1 = cc in omega arith) read-ends
 
-  pub reading-numbers : ReadingNumbers file
+  pub reading-numbers : ExactNumbers (readTable file) (refusalNumber (checkOf file)) (refusalEvent (checkOf file))
   reading-numbers =
       exact-numbers (readTable file) (Accepted (jobIn file)) refuse (checkOf file) refusalNumber refusalEvent (λ n m. (refl, refl)) refl read-ends

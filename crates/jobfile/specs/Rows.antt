@@ -1,20 +1,16 @@
 -- Rows 8 to 13 of the table, each by itself, and the table of reading.
 use Prim.Native.Nat.{ℕ, suc, _+_, _*_, _≤_, _<_}
 use mathlib.Core.Path.{_≡_}
-use mathlib.Core.Logic.{_⊎_, _↔_}
+use mathlib.Core.Logic.{_⊎_}
 use mathlib.Core.List.{List, [], _∷_, _++_}
 use lib.ListN.{getD}
-use Rattle.trailer.specs.Table.{Rows, row, Table, Exact, ExactNumbers}
+use Rattle.trailer.specs.Table.{Rows, row, Table}
 use Rattle.trailer.specs.Rows.{countOf, recordsOf, startOf, headTable}
 use Rattle.jobfile.specs.declared.Job.{Job}
 use Rattle.jobfile.specs.declared.event.Event.{Event}
 use Rattle.jobfile.specs.declared.event.Event.the-variants.{Spawn, End, Sync, Read, Write}
-use Rattle.jobfile.specs.declared.coding.Decoded.the-variants.{Event as An, Refused as Unread}
-use Rattle.jobfile.specs.declared.Checked.the-variants.{Accepted, Refused}
-use Rattle.jobfile.specs.Refusals.{refusalOf}
-use Rattle.jobfile.specs.Coding.{eventOf}
 use Rattle.jobfile.specs.Trace.{eventAt, moves, depthAt, begunAt}
-use Rattle.jobfile.specs.File.{eventsFrom, checkOf, refusalNumber, refusalEvent}
+use Rattle.jobfile.specs.File.{eventsFrom}
 
 -- "An event: kind, a zero byte, record number (2 bytes)."
 abbrev pub kindAt : List ℕ → ℕ → ℕ
@@ -37,11 +33,6 @@ Coded kind second number End = (kind ≡ 2) × (second ≡ 0) × (number ≡ 0)
 Coded kind second number Sync = (kind ≡ 3) × (second ≡ 0) × (number ≡ 0)
 Coded kind second number (Read r) = (kind ≡ 4) × (second ≡ 0) × (number ≡ r)
 Coded kind second number (Write r) = (kind ≡ 5) × (second ≡ 0) × (number ≡ r)
-
--- Decoding is exact, for every three fields.
-pub record DecodingExact (kind second number : ℕ) : Type 0 where
-  pub event : (e : Event) → (eventOf kind second number ≡ An e) ↔ Coded kind second number e
-  pub refusal : (k : ℕ) → (eventOf kind second number ≡ Unread k) ↔ ((k ≡ 8) × Malformed kind second number)
 
 -- The rows of one event: its three fields, the tasks open before it, the strands begun before and after it.
 pub data AtEvent (records kind second number depth before after : ℕ) : ℕ → Type 0 where
@@ -84,10 +75,3 @@ jobIn file = record {
   records = recordsOf file;
   strands = begunAt (moves (eventAt (partIn file))) (countOf file);
 }
-
--- Reading is exact, for every byte string.
-abbrev pub ReadingExact : List ℕ → Type 0
-ReadingExact file = Exact (readTable file) (Accepted (jobIn file)) (λ n m. Refused (refusalOf n m)) (checkOf file)
-
-abbrev pub ReadingNumbers : List ℕ → Type 0
-ReadingNumbers file = ExactNumbers (readTable file) (refusalNumber (checkOf file)) (refusalEvent (checkOf file))

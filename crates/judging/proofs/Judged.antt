@@ -1,7 +1,6 @@
 -- What a call of `judge` that is taken answers: the verdict of the events, told in the paper's numbers. Assumes nothing.
 use mathlib.Core.Path.{_≡_, refl, sym, _∙_, subst}
 use mathlib.Core.List.{List}
-use mathlib.Core.Option.{Option, none, some, Option·getD}
 use Prim.Native.Nat.{ℕ, _≤_, _<_}
 use native.Mathlib.Omega.{arith}
 use lib.ListN.{length}
@@ -12,11 +11,10 @@ use Rattle.jobfile.specs.declared.event.Event.{Event}
 use Rattle.jobfile.proofs.Checking.{accepted-part}
 use Rattle.relation.specs.Parallel.{Rooted}
 use Rattle.races.specs.Race.{Race as IsRace}
-use Rattle.races.specs.Records.{Verdict, clean, race, secondIn, verdictAt, verdictIn, stopIn}
-use Rattle.races.specs.Mark.{rules, eventTrace}
+use Rattle.races.specs.Records.{Verdict, clean, race}
 use Rattle.races.specs.Named.{Named}
 use Rattle.races.specs.Verdict.{verdict, stopAt}
-use Rattle.races.proofs.Named.{verdict-race, verdict-clean, named-only}
+use Rattle.races.proofs.Named.{verdict-race, verdict-clean, named-only, stop-race, stop-clean}
 use Rattle.taking.specs.Buffers.{Buffers}
 use Rattle.judging.specs.declared.Answer.{Answer}
 use Rattle.judging.specs.Answers.{answerWith, judgedOf, judgeFault, judgeOf, judgeWith}
@@ -42,13 +40,13 @@ clean-verdict clean a b c C = refl
 clean-verdict (race x y z) a b c C = absurd (omega (arith, C .raced))
 
 -- where judging stops is what the answer shows
-stop-of : (ev : ℕ → Event) (k a b c : ℕ) (o : Option ℕ) → Option·getD o k ≡ shownAt k (answerWith (verdictAt rules (eventTrace ev) o) a b c)
-stop-of ev k a b c none = refl
-stop-of ev k a b c (some j) = refl
-
 pub stop-shown : (ev : ℕ → Event) (k : ℕ) → stopAt ev k ≡ shownAt k (judgedOf ev k)
-unfolding judgedOf verdictIn stopIn
-stop-shown ev k = stop-of ev k _ _ _ (secondIn rules (eventTrace ev) k)
+unfolding judgedOf
+stop-shown ev k = by (verdict ev k) refl _ _ _
+  where
+    by : (v : Verdict) → verdict ev k ≡ v → (s e h : ℕ) → stopAt ev k ≡ shownAt k (answerWith v s e h)
+    by clean z s e h = stop-clean ev k z
+    by (race i j r) z s e h = stop-race ev k i j r z
 
 module _ (file : List ℕ) (k : ℕ) (B₀ : Buffers) (T : Judgeable file k B₀) where
   accepted-events : AcceptedTrace (T .job .records) (T .job .events) (T .job .strands) (eventPart file)

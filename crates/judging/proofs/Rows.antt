@@ -7,7 +7,7 @@ use mathlib.Core.Bool.{Bool, true, false, cond}
 use lib.Dec.{eqb, ltb}
 use native.Mathlib.Omega.{arith}
 use borrow.Author.Tests.{ltb-true, ltb-false}
-use Rattle.trailer.specs.Table.{row, Nowhere, Table}
+use Rattle.trailer.specs.Table.{row, Nowhere, Table, Exact, ExactNumbers}
 use Rattle.trailer.proofs.Table.{first-row, not-row, given-front, Ends, ends-behind, exact, exact-numbers}
 use Rattle.jobfile.specs.Refusals.{refusalOf}
 use Rattle.jobfile.specs.File.{checkOf}
@@ -22,7 +22,7 @@ use Rattle.races.specs.Verdict.{verdict}
 use Rattle.judging.specs.declared.Answer.{Answer}
 use Rattle.judging.specs.declared.Answer.the-variants.{Clean, Race, Refused}
 use Rattle.judging.specs.Answers.{answerWith, judgedOf, noRoom, judgeFault, afterCheck, judgeOf, numbersOf}
-use Rattle.judging.specs.Rows.{runTable, judgeTable, JudgingExact, JudgingNumbers}
+use Rattle.judging.specs.Rows.{runTable, judgeTable}
 
 abbrev refuse : ℕ → ℕ → Answer
 refuse n m = Refused (refusalOf n m)
@@ -95,12 +95,15 @@ module _ (file : List ℕ) (k labels links places : ℕ) where
           (run-ends (jobIn file .events) (jobIn file .strands) k labels links places ran))
       by c (inr (n, m, e, p, g)) = rw e (inr (n, m, refl, p, given-front (readTable file) running n m g))
 
-  pub judging-exact : JudgingExact file k labels links places
+  -- Judging is exact, for every byte string, every k and buffers of any length.
+  pub judging-exact : Exact (judgeTable file k labels links places) (judgedOf (eventAt (partIn file)) k) (λ n m. Refused (refusalOf n m))
+      (judgeOf file k labels links places)
   judging-exact =
       exact (judgeTable file k labels links places) ran refuse (judgeOf file k labels links places) refusalIn eventIn (λ n m. (refl, refl))
       (λ n m e. subst Answered e (judged-answers (eventAt (partIn file)) k .1)) judge-ends
 
-  pub judging-numbers : JudgingNumbers file k labels links places
+  pub judging-numbers : ExactNumbers (judgeTable file k labels links places) (numbersOf (judgeOf file k labels links places) .refusal)
+      (numbersOf (judgeOf file k labels links places) .event)
   judging-numbers =
       exact-numbers (judgeTable file k labels links places) ran refuse (judgeOf file k labels links places) refusalIn eventIn (λ n m. (refl, refl))
       (judged-answers (eventAt (partIn file)) k .0) judge-ends

@@ -3,14 +3,10 @@ use Prim.Native.Nat.{ℕ, _-_, _^_, _<_}
 use mathlib.Core.Logic.{_⊎_}
 use mathlib.Core.List.{List, [], _∷_, _++_}
 use lib.ListN.{length}
-use Rattle.trailer.specs.Table.{row, Table, Exact, ExactNumbers}
-use Rattle.jobfile.specs.Refusals.{refusalOf}
-use Rattle.jobfile.specs.Rows.{partIn, jobIn, readTable}
-use Rattle.jobfile.specs.Trace.{eventAt}
+use Rattle.trailer.specs.Table.{row, Table}
+use Rattle.jobfile.specs.Rows.{jobIn, readTable}
 use Rattle.orders.specs.Order.{spaced}
 use Rattle.taking.specs.Buffers.{Buffers}
-use Rattle.judging.specs.Answers.{judgedOf, judgeOf, numbersOf}
-use Rattle.judging.specs.declared.Answer.the-variants.{Refused}
 
 -- "Judging goes on with 15, 14, 17", for the numbers of events and strands of a file, k, and the lengths of labels, links and places.
 abbrev pub runTable : ℕ → ℕ → ℕ → ℕ → ℕ → ℕ → Table
@@ -29,14 +25,3 @@ judgeTable file k labels links places = readTable file ++ runTable (jobIn file .
 -- with the buffers that are lent
 abbrev pub judgeTableWith : List ℕ → ℕ → Buffers → Table
 judgeTableWith file k B = judgeTable file k (length (B .labels)) (length (B .links)) (length (B .places))
-
--- Judging is exact, for every byte string, every k and buffers of any length.
-abbrev pub JudgingExact : List ℕ → ℕ → ℕ → ℕ → ℕ → Type 0
-JudgingExact file k labels links places =
-    Exact (judgeTable file k labels links places) (judgedOf (eventAt (partIn file)) k) (λ n m. Refused (refusalOf n m))
-    (judgeOf file k labels links places)
-
-abbrev pub JudgingNumbers : List ℕ → ℕ → ℕ → ℕ → ℕ → Type 0
-JudgingNumbers file k labels links places =
-    let numbers = numbersOf (judgeOf file k labels links places) in
-    ExactNumbers (judgeTable file k labels links places) (numbers .refusal) (numbers .event)

@@ -4,7 +4,7 @@ use mathlib.Core.Path.{_≡_, refl, sym, ap, _∙_}
 use mathlib.Core.Logic.{inl, inr, _↔_}
 use mathlib.Core.List.{List}
 use mathlib.Core.Bool.{true, _||_}
-use mathlib.Core.Option.{none, some}
+use mathlib.Core.Option.{Option, none, some, Option·getD}
 use Prim.Native.Nat.{ℕ, zero, suc, _+_, _*_, _≤_, _<_}
 use native.Mathlib.Omega.{arith}
 use native.Mathlib.Decide.{decLe}
@@ -19,7 +19,7 @@ use Rattle.relation.specs.Strand.{strandAt}
 use Rattle.relation.proofs.Laws.{rooted-less}
 use Rattle.races.specs.Trace.{classOf}
 use Rattle.races.specs.Places.{held}
-use Rattle.races.specs.Records.{clean, race, secondIn, RaceOn, FirstOn, PairOn, OneRace}
+use Rattle.races.specs.Records.{Verdict, clean, race, secondIn, verdictAt, verdictIn, stopIn, RaceOn, FirstOn, PairOn, OneRace}
 use Rattle.races.specs.Entries.{eventOr, strandOr, HasPlace}
 use Rattle.races.specs.Shown.{Shown}
 use Rattle.races.specs.Mark.{rank, actOf, isWrite, rules, layout, eventTrace}
@@ -185,6 +185,23 @@ module _ (ev : ℕ → Event) where
         read = λ m D. let z = standing-is ev r n m root .1 D in (read ∙ ap eventOr z, read-strand ∙ ap (strandOr (strandAt (moves ev))) z);
         unread = λ f. let z = no-standing ev r n root .1 f in (read ∙ ap eventOr z, read-strand ∙ ap (strandOr (strandAt (moves ev))) z);
       }
+
+  -- judging stops at the racing event, or after k events
+  abbrev stopBy : ℕ → Verdict → ℕ
+  stopBy k clean = k
+  stopBy k (race i j r) = j
+
+  stop-by : (k : ℕ) (o : Option ℕ) (v : Verdict) → verdictAt rules (eventTrace ev) o ≡ v → Option·getD o k ≡ stopBy k v
+  stop-by k none v e = rw (← e)
+  stop-by k (some j) v e = rw (← e)
+
+  pub stop-race : (k i j r : ℕ) → verdict ev k ≡ race i j r → stopAt ev k ≡ j
+  unfolding verdictIn stopIn
+  stop-race k i j r v = stop-by k (secondIn rules (eventTrace ev) k) (race i j r) v
+
+  pub stop-clean : (k : ℕ) → verdict ev k ≡ clean → stopAt ev k ≡ k
+  unfolding verdictIn stopIn
+  stop-clean k v = stop-by k (secondIn rules (eventTrace ev) k) clean v
 
   -- where judging k events stops, nothing has raced: so the buffer shows the last write and the standing read of every record
   pub stop-entries : (k records : ℕ) (P₀ P : List ℕ) → Rooted (moves ev) k → Shown rules (eventTrace ev) layout (stopAt ev k) records P₀ P

@@ -7,7 +7,7 @@ use mathlib.Core.Bool.{Bool, true, false, cond, _&&_, false≢true}
 use lib.Dec.{eqb, ltb}
 use native.Mathlib.Omega.{arith}
 use borrow.Author.Tests.{ltb-true, ltb-false}
-use Rattle.trailer.specs.Table.{Table}
+use Rattle.trailer.specs.Table.{Table, Exact, ExactNumbers}
 use Rattle.trailer.specs.Rows.{countOf}
 use Rattle.trailer.proofs.Table.{first-row, not-row, given-front, Ends, ends-behind, exact, exact-numbers}
 use Rattle.jobfile.specs.declared.Checked.{Checked}
@@ -25,7 +25,7 @@ use Rattle.jobfile.specs.Rows.{Malformed, Coded, kindAt, secondAt, numberAt, pa
 use Rattle.jobfile.proofs.EventRows.{Seen, seen}
 use Rattle.jobfile.proofs.Rows.{ReadEnds, read-ends, events-read}
 use Rattle.relation.specs.Question.{isAccess, accessAt, compareOf, askedOf, afterCheck, questionOf, answerRefusal, answerEvent}
-use Rattle.relation.specs.Rows.{NoAccess, askedTable, questionTable, QuestionExact, QuestionNumbers}
+use Rattle.relation.specs.Rows.{NoAccess, askedTable, questionTable}
 use Rattle.relation.specs.Walk.{par}
 use Rattle.relation.specs.declared.Related.{Related}
 use Rattle.relation.specs.declared.Related.the-variants.{Same, Before, After, Parallel, Refused}
@@ -122,12 +122,13 @@ module _ (file : List ℕ) (i j : ℕ) where
           (asked-ends (countOf file) (partIn file) i j (events-read file none)))
       by c (inr (n, m, e, p, g)) = rw e (inr (n, m, refl, p, given-front (readTable file) asked n m g))
 
-  pub question-exact : QuestionExact file i j
+  -- The question is exact, for every byte string and every two numbers.
+  pub question-exact : Exact (questionTable file i j) (compareOf mv i j) (λ n m. Refused (refusalOf n m)) (questionOf file i j)
   question-exact =
       exact (questionTable file i j) (compareOf mv i j) refuse (questionOf file i j) answerRefusal answerEvent (λ n m. (refl, refl))
       (λ n m e. subst Answered e (compared mv i j .1)) question-ends
 
-  pub question-numbers : QuestionNumbers file i j
+  pub question-numbers : ExactNumbers (questionTable file i j) (answerRefusal (questionOf file i j)) (answerEvent (questionOf file i j))
   question-numbers =
       exact-numbers (questionTable file i j) (compareOf mv i j) refuse (questionOf file i j) answerRefusal answerEvent (λ n m. (refl, refl))
       (compared mv i j .0) question-ends

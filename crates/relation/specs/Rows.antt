@@ -3,13 +3,9 @@ use Prim.Native.Nat.{ℕ, _≤_}
 use mathlib.Core.Path.{_≡_}
 use mathlib.Core.Logic.{_⊎_}
 use mathlib.Core.List.{List, [], _∷_, _++_}
-use Rattle.trailer.specs.Table.{row, Table, Exact, ExactNumbers}
+use Rattle.trailer.specs.Table.{row, Table}
 use Rattle.trailer.specs.Rows.{countOf}
-use Rattle.jobfile.specs.Refusals.{refusalOf}
 use Rattle.jobfile.specs.Rows.{kindAt, partIn, readTable}
-use Rattle.jobfile.specs.Trace.{eventAt, moves}
-use Rattle.relation.specs.Question.{compareOf, questionOf, answerRefusal, answerEvent}
-use Rattle.relation.specs.declared.Related.the-variants.{Refused}
 
 -- 18: "question about an event that is no access": "4 read, 5 write"
 abbrev pub NoAccess : ℕ → Type 0
@@ -25,11 +21,3 @@ askedTable count part i j =
 
 abbrev pub questionTable : List ℕ → ℕ → ℕ → Table
 questionTable file i j = readTable file ++ askedTable (countOf file) (partIn file) i j
-
--- The question is exact, for every byte string and every two numbers.
-abbrev pub QuestionExact : List ℕ → ℕ → ℕ → Type 0
-QuestionExact file i j =
-    Exact (questionTable file i j) (compareOf (moves (eventAt (partIn file))) i j) (λ n m. Refused (refusalOf n m)) (questionOf file i j)
-
-abbrev pub QuestionNumbers : List ℕ → ℕ → ℕ → Type 0
-QuestionNumbers file i j = ExactNumbers (questionTable file i j) (answerRefusal (questionOf file i j)) (answerEvent (questionOf file i j))

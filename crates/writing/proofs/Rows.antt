@@ -8,7 +8,7 @@ use lib.ListN.{length}
 use lib.Dec.{eqb, ltb}
 use native.Mathlib.Omega.{arith}
 use borrow.Author.Tests.{eqb-true, eqb-false, ltb-true, ltb-false}
-use Rattle.trailer.specs.Table.{row, Nowhere, Table, Given, NoRow}
+use Rattle.trailer.specs.Table.{row, Nowhere, Table, Given, NoRow, Exact, ExactNumbers}
 use Rattle.trailer.specs.Trailer.{printable}
 use Rattle.trailer.specs.Rows.{RecordCountOut, NameOut}
 use Rattle.trailer.proofs.Table.{first-row, not-row, given-front, given-back, none-both, Ends, exact, exact-numbers}
@@ -20,7 +20,7 @@ use Rattle.jobfile.specs.declared.tasks.Traced.{Traced}
 use Rattle.jobfile.specs.declared.tasks.Traced.the-variants.{Whole}
 use Rattle.jobfile.proofs.Rows.{TraceEnds, trace-ends}
 use Rattle.writing.specs.Written.{writtenFile, nameFits, recordsFit, partsFault, writeOf, refusalNumber, refusalEvent}
-use Rattle.writing.specs.Rows.{partsTable, writeTable, WritingExact, WritingNumbers}
+use Rattle.writing.specs.Rows.{partsTable, writeTable}
 use Rattle.writing.specs.declared.Written.{Written}
 use Rattle.writing.specs.declared.Written.the-variants.{Bytes, Refused}
 use Rattle.writing.proofs.Answers.{length-written, refuse-parts, refuse-events, refuse-room, give-bytes}
@@ -129,12 +129,15 @@ module _ (name : List ℕ) (records : ℕ) (events : List ℕ) (room : ℕ) wher
       start (inr (p, g)) =
           inr (fault, 0, sym (refuse-parts name records events room fault refl (λ z. omega arith)), p, given-front parts (traced ++ roomy) fault 0 g)
 
-  pub writing-exact : WritingExact name records events room
+  -- Writing is exact, for every name, record count, event bytes and length of the buffer.
+  pub writing-exact : Exact (writeTable name records events room) (Bytes (length (writtenFile name records events))) (λ n m. Refused (refusalOf n m))
+      (writeOf name records events room)
   writing-exact =
       exact (writeTable name records events room) (Bytes (length file)) refuse (writeOf name records events room) refusalNumber refusalEvent
       (λ n m. (refl, refl)) (λ n m e. let z : _≡_ {A = ℕ} 0 1 = cc in omega arith) write-ends
 
-  pub writing-numbers : WritingNumbers name records events room
+  pub writing-numbers : ExactNumbers (writeTable name records events room) (refusalNumber (writeOf name records events room))
+      (refusalEvent (writeOf name records events room))
   writing-numbers =
       exact-numbers (writeTable name records events room) (Bytes (length file)) refuse (writeOf name records events room) refusalNumber refusalEvent
       (λ n m. (refl, refl)) refl write-ends

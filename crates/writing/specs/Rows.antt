@@ -3,12 +3,10 @@ use Prim.Native.Nat.{ℕ, _/_, _%_, _<_}
 use mathlib.Core.Path.{_≡_}
 use mathlib.Core.List.{List, [], _∷_, _++_}
 use lib.ListN.{length}
-use Rattle.trailer.specs.Table.{row, Table, Exact, ExactNumbers}
+use Rattle.trailer.specs.Table.{row, Table}
 use Rattle.trailer.specs.Rows.{RecordCountOut, EventCountOver, NameOut}
-use Rattle.jobfile.specs.Refusals.{refusalOf}
 use Rattle.jobfile.specs.Rows.{traceTable}
-use Rattle.writing.specs.Written.{writtenFile, writeOf, refusalNumber, refusalEvent}
-use Rattle.writing.specs.declared.Written.the-variants.{Bytes, Refused}
+use Rattle.writing.specs.Written.{writtenFile}
 
 -- "Writing: 7, 3, 5, 4"
 abbrev pub partsTable : List ℕ → ℕ → ℕ → Table
@@ -25,14 +23,3 @@ abbrev pub writeTable : List ℕ → ℕ → List ℕ → ℕ → Table
 writeTable name records events room =
     partsTable name records (length events)
     ++ (traceTable records (length events / 4) events ++ (row 16 (room < length (writtenFile name records events)) ∷ []))
-
--- Writing is exact, for every name, record count, event bytes and length of the buffer.
-abbrev pub WritingExact : List ℕ → ℕ → List ℕ → ℕ → Type 0
-WritingExact name records events room =
-    Exact (writeTable name records events room) (Bytes (length (writtenFile name records events))) (λ n m. Refused (refusalOf n m))
-    (writeOf name records events room)
-
-abbrev pub WritingNumbers : List ℕ → ℕ → List ℕ → ℕ → Type 0
-WritingNumbers name records events room =
-    let answer = writeOf name records events room in
-    ExactNumbers (writeTable name records events room) (refusalNumber answer) (refusalEvent answer)
