@@ -57,7 +57,8 @@ module _ (test : ℕ → Bool) where
   least-step : (n : ℕ) (o : Option ℕ) (b : Bool) → test n ≡ b → Least n o → Least (suc n) (orHere o b n)
   least-step n none true e l = (omega arith, e, l)
   least-step n none false e l = below (λ m. test m ≡ false) n l e
-  least-step n (some j) b e l = (omega arith, l .1, l .2)
+  least-step n (some j) true e l = (omega arith, l .1, l .2)
+  least-step n (some j) false e l = (omega arith, l .1, l .2)
 
   pub least-is : (n : ℕ) → Least n (least test n)
   unfolding least
