@@ -1,7 +1,8 @@
 // Job files: the check of a whole file, and its parts.
 //
-// Every byte string is dealt with: a file is accepted, or refused by its number. No public entry
-// point has a `requires`, and nothing here writes to a caller's buffer.
+// Every byte string is dealt with: a file is accepted, or refused by its number. The calls on a
+// file have no `requires`; two steps lent to the crates above have one, with its reason. Nothing
+// here writes to a caller's buffer.
 mod coding;
 mod event;
 mod refusal;
