@@ -16,8 +16,7 @@ use Rattle.races.specs.Places.{holds, stood, parTo, inClass, held, finds
 use Rattle.races.specs.Records.{stopOf}
 use Rattle.races.specs.Entries.{put, Layout, HasPlace}
 use Rattle.races.specs.Shown.{Names, NamesNone, shownAt, Facing, Accessed}
-use Rattle.races.specs.declared.Met.the-variants.{First, Nothing}
-use Rattle.races.proofs.Search.{Least, least-is}
+use Rattle.races.proofs.Search.{Least, least-is, least-only}
 use Rattle.races.proofs.Standing.{holds-some}
 use Rattle.races.proofs.Found.{together, of-is, found-by, finding-first}
 use Rattle.races.proofs.Entries.{holding-same, holding-put}
@@ -51,7 +50,13 @@ module _ {R : Rules} {T : Trace} {n r b : ℕ} {told : ℕ → Bool} (F : Facing
   names-finds : (c : ℕ) → Names R b told c → finds R T r n c ≡ true
   names-finds c N = finds-told c (N .below) ∙ together (N .clash) (N .parallel)
 
-  names-first : (c : ℕ) → Names R b told c → (i : ℕ) × (held R T r c n ≡ some i) × (firstOf R T r n ≡ some i)
+  -- the class that is named, and what its place holds
+  pub names-class : (c : ℕ) → Names R b told c → foundClass R T r n ≡ some c
+  names-class c N =
+      least-only (finds R T r n) (R .classes) (foundClass R T r n) (some c) (least-is (finds R T r n) (R .classes))
+      (N .below, names-finds c N, λ d l. finds-told d (omega (arith, N .below)) ∙ N .smaller d l)
+
+  pub names-first : (c : ℕ) → Names R b told c → (i : ℕ) × (held R T r c n ≡ some i) × (firstOf R T r n ≡ some i)
   names-first c N =
       let h = holds-some (parTo T n) (held R T r c n) (sym (F .tells c (N .below) (inl (N .clash))) ∙ N .parallel) in
       let e : classOf (T .act n) ≡ b = ap classOf (F .is-access) in (
@@ -74,7 +79,7 @@ module _ {R : Rules} {T : Trace} {n r b : ℕ} {told : ℕ → Bool} (F : Facing
   none-first none l f = refl
   none-first (some c) l f = absurd (false≢true (sym (f c (l .0)) ∙ sym (finds-told c (l .0)) ∙ l .1))
 
-  names-none : NamesNone R b told → firstOf R T r n ≡ none
+  pub names-none : NamesNone R b told → firstOf R T r n ≡ none
   unfolding firstOf
   names-none f = none-first (foundClass R T r n) (least-is (finds R T r n) (R .classes)) f
 
@@ -85,14 +90,6 @@ module _ {R : Rules} {T : Trace} {n r b : ℕ} {told : ℕ → Bool} (F : Facing
       all-false : (x : Bool) → (x && false) ≡ false
       all-false true = refl
       all-false false = refl
-
-  -- what every place is to hold after the event
-  named-stays : (c : ℕ) → Names R b told c → (q d : ℕ) → shownAt R T (suc n) q d ≡ shownAt R T n q d
-  named-stays c N q d = go (same-or-not q r)
-    where
-      go : (q ≡ r) ⊎ (q ≢ r) → shownAt R T (suc n) q d ≡ shownAt R T n q d
-      go (inl e) = rw e (racing-stays R T (F .law) (F .fit) r n (F .unraced) (names-found c N) d)
-      go (inr e) = elsewhere-stays R T (F .law) (F .fit) q n (ap (onRecord q) (F .is-access) ∙ off-record q r b e) d
 
   -- nothing named: the places of other classes and records are as they were
   others-stay : NamesNone R b told → (q d : ℕ) → ¬ ((q ≡ r) × (d ≡ b)) → shownAt R T (suc n) q d ≡ shownAt R T n q d
@@ -129,35 +126,22 @@ module _ {R : Rules} {T : Trace} {n r b : ℕ} {told : ℕ → Bool} (F : Facing
 
 -- The buffer. `HasPlace` says that the class in question has its place in this one.
 module _ {R : Rules} {Y : Layout} {told : ℕ → Bool} {P : List ℕ} {r b at strand : ℕ} where
-  pub accessed-first : (c : ℕ) → c < Y .classes
-      → Names R b told c
-      → Accessed R Y told P r b at strand P (First (getD P (Y .spot r c) 0))
-  accessed-first c high N T n records P₀ J =
-      let F = J .facing in
-      let w = names-first F c N in
-      let s : stopOf R T r n ≡ n = stop-none R T r n (F .unraced) in
-      let h : HasPlace Y records r c = record { on-record = J .on-record; below = high } in
-      let e : getD P (Y .spot r c) 0 ≡ w .0 = J .shown .event r c h ∙ rw (s, w .1) in
-      (rw (e, w .2), holding-same (J .shown) (shownAt R T (suc n)) (λ q d k. named-stays F c N q d))
-
   pub accessed-put : b < Y .classes → NamesNone R b told
       → (R .latest b ≡ true) ⊎ (told b ≡ false)
-      → Accessed R Y told P r b at strand (put P (Y .spot r b) (Y .gap) at strand) Nothing
+      → Accessed R Y told P r b at strand (put P (Y .spot r b) (Y .gap) at strand)
   accessed-put high none-named takes T n records P₀ J =
       let F = J .facing in
-      let h : HasPlace Y records r b = record { on-record = J .on-record; below = high } in (
-        rw (names-none F none-named),
-        rw (J .number, J .strand-is)
-            (holding-put (J .shown) (J .laid) (shownAt R T (suc n)) r b (some n) h (own-taken F none-named takes) (λ q d k z. others-stay F none-named q d z)),
-      )
+      let h : HasPlace Y records r b = record { on-record = J .on-record; below = high } in
+      rw (J .number, J .strand-is)
+      (holding-put (J .shown) (J .laid) (shownAt R T (suc n)) r b (some n) h (own-taken F none-named takes) (λ q d k z. others-stay F none-named q d z))
 
   -- the access does not come to stand, or has its place in another buffer
   pub accessed-kept : NamesNone R b told
       → (R .latest b ≡ false) × (told b ≡ true)
-      → Accessed R Y told P r b at strand P Nothing
+      → Accessed R Y told P r b at strand P
   accessed-kept none-named keeps T n records P₀ J =
       let F = J .facing in
-      (rw (names-none F none-named), holding-same (J .shown) (shownAt R T (suc n)) (λ q d k. stays F q d (both-or q d)))
+      holding-same (J .shown) (shownAt R T (suc n)) (λ q d k. stays F q d (both-or q d))
     where
       both-or : (q d : ℕ) → ((q ≡ r) × (d ≡ b)) ⊎ (¬ ((q ≡ r) × (d ≡ b)))
       both-or q d = go (same-or-not q r) (same-or-not d b)

@@ -1,17 +1,18 @@
 -- What each return of an access gives by the rules of the mark, and that the buffer has room for its places. Assumes nothing.
-use mathlib.Core.Path.{_≡_, refl}
+use mathlib.Core.Path.{_≡_, refl, sym}
 use mathlib.Core.Logic.{inl, inr}
 use mathlib.Core.List.{List}
-use mathlib.Core.Bool.{Bool, true, false, cond, _&&_, _||_}
+use mathlib.Core.Bool.{Bool, true, false, cond, false≢true, _&&_, _||_, and-false}
 use Prim.Native.Nat.{ℕ, zero, suc, _+_, _*_, _≤_, _<_}
 use native.Mathlib.Omega.{arith}
 use lib.ListN.{getD}
 use Rattle.races.specs.Entries.{put, Laid}
-use Rattle.races.specs.Mark.{isWrite, rules, layout, two}
-use Rattle.races.specs.Shown.{Accessed}
-use Rattle.races.specs.declared.Met.the-variants.{First, Nothing}
+use Rattle.jobfile.specs.declared.event.Kind.{Kind}
+use Rattle.jobfile.specs.declared.event.Kind.the-variants.{Write, Read}
+use Rattle.races.specs.Mark.{rank, isWrite, rules, layout, two}
+use Rattle.races.specs.Shown.{Names, NamesNone, Accessed}
 use Rattle.races.proofs.Entries.{put-held}
-use Rattle.races.proofs.Accesses.{accessed-first, accessed-put, accessed-kept}
+use Rattle.races.proofs.Accesses.{accessed-put, accessed-kept}
 
 -- the buffer has room for the places, and no two share an entry
 pub places-laid : (records size : ℕ) → records ≤ 4096 → 16384 ≤ size → Laid layout records size
@@ -25,51 +26,33 @@ places-laid records size few room = record {
 pub last-clashes : (c : ℕ) → isWrite c ≡ true → (isWrite c || isWrite c) ≡ true
 last-clashes c t = rw t
 
+-- neither of two places that are both told before names anything
+pub none-told : (b : ℕ) (d : ℕ) → d < 2 → ((isWrite d || isWrite b) && two false false d) ≡ false
+none-told b zero l = refl
+none-told b (suc zero) l = and-false (isWrite b)
+none-told b (suc (suc d)) l = absurd (omega arith)
+
 -- a read races with nothing but the last write
-read-none : (wrote stood : Bool) → wrote ≡ false → (d : ℕ) → d < 2 → ((isWrite d || isWrite 1) && two wrote stood d) ≡ false
-read-none wrote stood past zero l = past
-read-none wrote stood past (suc zero) l = refl
-read-none wrote stood past (suc (suc d)) l = absurd (omega arith)
+pub read-none : (stood : Bool) (d : ℕ) → d < 2 → ((isWrite d || isWrite 1) && two false stood d) ≡ false
+read-none stood zero l = refl
+read-none stood (suc zero) l = refl
+read-none stood (suc (suc d)) l = absurd (omega arith)
 
--- and a write with that and the standing read
-write-none : (wrote stood : Bool) → wrote ≡ false → stood ≡ false → (d : ℕ) → d < 2 → ((isWrite d || isWrite 0) && two wrote stood d) ≡ false
-write-none wrote stood past g zero l = past
-write-none wrote stood past g (suc zero) l = g
-write-none wrote stood past g (suc (suc d)) l = absurd (omega arith)
+-- the last write is named if it is parallel, whatever stands
+pub last-write-named : (b : ℕ) (stood : Bool) → Names rules b (two true stood) 0
+last-write-named b stood = record { below = omega arith; clash = refl; parallel = refl; smaller = λ d l. absurd (omega arith) }
 
-module _ {P : List ℕ} {r at strand : ℕ} {wrote stood : Bool} where
-  -- the last write is parallel
-  pub last-write-named : (b : ℕ) → wrote ≡ true → Accessed rules layout (two wrote stood) P r b at strand P (First (getD P r 0))
-  last-write-named b t =
-      let e : 8192 * 0 + r ≡ r = omega arith in
-      rw e at (accessed-first {R = rules} {Y = layout} {told = two wrote stood} {P = P} {r = r} {b = b} {at = at} {strand = strand} 0 (omega arith)
-      (record { below = omega arith; clash = refl; parallel = t; smaller = λ d l. absurd (omega arith) }))
+-- the standing read is, by a write, if only that is parallel
+pub standing-read-named : Names rules 0 (two false true) 1
+standing-read-named = record { below = omega arith; clash = refl; parallel = refl; smaller = λ d l. let z : d ≡ 0 = omega arith in rw z }
 
-  module _ (past : wrote ≡ false) where
-    -- only the standing read is, and this is a write
-    pub standing-read-named : stood ≡ true → Accessed rules layout (two wrote stood) P r 0 at strand P (First (getD P (8192 + r) 0))
-    standing-read-named t =
-        let e : 8192 * 1 + r ≡ 8192 + r = omega arith in
-        rw e at (accessed-first {R = rules} {Y = layout} {told = two wrote stood} {P = P} {r = r} {b = 0} {at = at} {strand = strand} 1 (omega arith)
-        (record { below = omega arith; clash = refl; parallel = t; smaller = λ d l. let z : d ≡ 0 = omega arith in rw (z, past) }))
-
-    -- neither, and the write is the last one
-    pub write-put : stood ≡ false → Accessed rules layout (two wrote stood) P r 0 at strand (put P r 4096 at strand) Nothing
-    write-put g =
-        let e : 8192 * 0 + r ≡ r = omega arith in
-        rw e at (accessed-put {R = rules} {Y = layout} {told = two wrote stood} {P = P} {r = r} {b = 0} {at = at} {strand = strand} (omega arith)
-        (write-none wrote stood past g) (inl refl))
-
-    -- it comes to stand where the standing one is not parallel to it, and else that one is put again
-    pub read-put : (stands : Bool) → stands ≡ stood
-        → Accessed rules layout (two wrote stood) P r 1 at strand
-        (put P (8192 + r) 4096 (cond stands (getD P (8192 + r) 0) at) (cond stands (getD P (12288 + r) 0) strand)) Nothing
-    read-put false f =
-        let e : 8192 * 1 + r ≡ 8192 + r = omega arith in
-        rw e at (accessed-put {R = rules} {Y = layout} {told = two wrote stood} {P = P} {r = r} {b = 1} {at = at} {strand = strand} (omega arith)
-        (read-none wrote stood past) (inr (rw f)))
-    read-put true t =
-        let e : 12288 + r ≡ 8192 + r + 4096 = omega arith in
-        rw (e, put-held P (8192 + r) 4096)
-        (accessed-kept {R = rules} {Y = layout} {told = two wrote stood} {P = P} {r = r} {b = 1} {at = at} {strand = strand}
-        (read-none wrote stood past) (refl, rw t))
+module _ {P : List ℕ} {r at strand : ℕ} where
+  -- An access that races with nothing goes into the place of its kind; a read that does not come to stand puts the standing one again.
+  pub access-put : (kind : Kind) (stood : Bool) → NamesNone rules (rank kind) (two false stood)
+      → Accessed rules layout (two false stood) P r (rank kind) at strand
+      (put P (8192 * rank kind + r) 4096 (cond stood (getD P (8192 * rank kind + r) 0) at) (cond stood (getD P (8192 * rank kind + r + 4096) 0) strand))
+  access-put Write false none-named = accessed-put {R = rules} {Y = layout} {told = two false false} (omega arith) none-named (inl refl)
+  access-put Write true none-named = absurd (false≢true (sym (none-named 1 (omega arith))))
+  access-put Read false none-named = accessed-put {R = rules} {Y = layout} {told = two false false} (omega arith) none-named (inr refl)
+  access-put Read true none-named =
+      rw (put-held P (8192 * 1 + r) 4096) (accessed-kept {R = rules} {Y = layout} {told = two false true} {P = P} none-named (refl, refl))

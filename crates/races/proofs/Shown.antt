@@ -10,22 +10,15 @@ use native.Mathlib.Omega.{arith}
 use lib.ListN.{getD}
 use Rattle.races.specs.Trace.{other, access, Trace, Lawful, onRecord}
 use Rattle.races.specs.Rules.{Rules, Fit}
-use Rattle.races.specs.Places.{holds, parTo, held, inClass, firstOf}
-use Rattle.races.specs.Records.{secondOf}
-use Rattle.races.specs.Entries.{strandOr, Layout, HasPlace, Holding}
-use Rattle.races.specs.Shown.{metOf, shownAt, Shown, Facing, Accessible, Accessed}
-use Rattle.races.specs.declared.Met.{Met}
-use Rattle.races.specs.declared.Met.the-variants.{First, Nothing}
+use Rattle.races.specs.Places.{holds, parTo, held, inClass, foundClass, firstOf}
+use Rattle.races.specs.Records.{secondOf, stopOf}
+use Rattle.races.specs.Entries.{eventOr, strandOr, Layout, HasPlace, Holding}
+use Rattle.races.specs.Shown.{shownAt, Shown, Accessible, Accessed}
 use Rattle.races.proofs.Standing.{held-below}
-use Rattle.races.proofs.Found.{found-none, found-some}
+use Rattle.races.proofs.Found.{found-none, found-some, second-next}
 use Rattle.races.proofs.Entries.{holding-same, holding-unique}
-use Rattle.races.proofs.Places.{held-start, none-yet, stop-none, frozen-stays, racing-stays, elsewhere-stays, clean-on, race-on}
+use Rattle.races.proofs.Places.{held-start, none-yet, stop-none, frozen-stays, racing-stays, elsewhere-stays, elsewhere-second, clean-on, race-on}
 use Rattle.races.proofs.Accesses.{off-record, same-or-not}
-
--- what the record's second becomes with event n
-abbrev pub secondAfter : ℕ → Option ℕ → Option ℕ
-secondAfter n none = none
-secondAfter n (some f) = some n
 
 module _ (R : Rules) (T : Trace) (Y : Layout) (records : ℕ) (P₀ : List ℕ) where
   -- emptied places show that nothing has happened
@@ -59,39 +52,44 @@ module _ (R : Rules) (T : Trace) (Y : Layout) (records : ℕ) (P₀ : List ℕ) 
       go none f = empty
       go (some m) f = tells m (held-below T law (inClass R T r c) (R .latest c) n m f .0)
 
--- the record's second after an access of it: this event if it found something, and otherwise still none
-pub second-after : {R : Rules} {T : Trace} {n r b : ℕ} {told : ℕ → Bool} → Facing R T n r b told
-    → secondOf R T r (suc n) ≡ secondAfter n (firstOf R T r n)
-second-after {R = R} {T = T} {n = n} {r = r} {b = b} F = go (firstOf R T r n) refl
-  where
-    go : (o : Option ℕ) → firstOf R T r n ≡ o → secondOf R T r (suc n) ≡ secondAfter n o
-    go none e = clean-on R T (F .law) (F .fit) r n (F .unraced) (found-none R T r n e)
-    go (some f) e = race-on R T (F .law) (F .fit) r n (F .unraced) (found-some R T r n b f (F .is-access) e)
+  -- The first of a record's race stands in a place of it, and stays there: the class that is named says which.
+  pub shown-first : (n : ℕ) (P : List ℕ) → Shown R T Y n records P₀ P → (r c j f : ℕ) → HasPlace Y records r c
+      → stopOf R T r n ≡ j → foundClass R T r j ≡ some c → firstOf R T r j ≡ some f → getD P (Y .spot r c) 0 ≡ f
+  unfolding firstOf
+  shown-first n P S r c j f h stop class first =
+      let held-there : held R T r c j ≡ some f = rw class at first in
+      S .event r c h ∙ rw stop (ap eventOr held-there)
 
--- "The racing access itself changes no place": what the places show behind it they showed before it
-pub shown-racing : {R : Rules} {T : Trace} {Y : Layout} {n r b records : ℕ} {P₀ P : List ℕ} {told : ℕ → Bool} → Facing R T n r b told
-    → (f : ℕ) → firstOf R T r n ≡ some f → Shown R T Y (suc n) records P₀ P → Shown R T Y n records P₀ P
-shown-racing {R = R} {T = T} {n = n} {r = r} {b = b} F f e S =
-    holding-same S (shownAt R T n) (λ q c h. sym (go q c (same-or-not q r)))
+-- The seconds after an access of a record that has not raced: if it finds something it is the record's second, otherwise there is still
+-- none; and no other record has raced.
+module _ (R : Rules) (T : Trace) (law : Lawful T) (fit : Fit R T) (n r b : ℕ) (on : T .act n ≡ access r b) where
+  pub second-raced : secondOf R T r n ≡ none → (f : ℕ) → firstOf R T r n ≡ some f → secondOf R T r (suc n) ≡ some n
+  second-raced unraced f e = race-on R T law fit r n unraced (found-some R T r n b f on e)
+
+  pub second-clean : secondOf R T r n ≡ none → firstOf R T r n ≡ none → secondOf R T r (suc n) ≡ none
+  second-clean unraced e = clean-on R T law fit r n unraced (found-none R T r n e)
+
+  -- nor has one that had raced
+  pub second-frozen : (j : ℕ) → secondOf R T r n ≡ some j → secondOf R T r (suc n) ≡ some j
+  second-frozen j e = second-next R T law fit r n ∙ rw e
+
+  pub second-elsewhere : (q : ℕ) → q ≢ r → secondOf R T q (suc n) ≡ secondOf R T q n
+  second-elsewhere q z = elsewhere-second R T law fit q n (ap (onRecord q) on ∙ off-record q r b z)
+
+-- "The racing access itself changes no place": what the places show before it they show behind it
+pub shown-racing : {R : Rules} {T : Trace} {Y : Layout} {n r b records : ℕ} {P₀ P : List ℕ} → Lawful T → Fit R T → T .act n ≡ access r b
+    → secondOf R T r n ≡ none → (f : ℕ) → firstOf R T r n ≡ some f → Shown R T Y n records P₀ P → Shown R T Y (suc n) records P₀ P
+shown-racing {R = R} {T = T} {n = n} {r = r} {b = b} law fit on unraced f e S =
+    holding-same S (shownAt R T (suc n)) (λ q c h. go q c (same-or-not q r))
   where
     go : (q c : ℕ) → (q ≡ r) ⊎ (q ≢ r) → shownAt R T (suc n) q c ≡ shownAt R T n q c
-    go q c (inl z) = rw z (racing-stays R T (F .law) (F .fit) r n (F .unraced) (found-some R T r n b f (F .is-access) e) c)
-    go q c (inr z) = elsewhere-stays R T (F .law) (F .fit) q n (ap (onRecord q) (F .is-access) ∙ off-record q r b z) c
+    go q c (inl z) = rw z (racing-stays R T law fit r n unraced (found-some R T r n b f on e) c)
+    go q c (inr z) = elsewhere-stays R T law fit q n (ap (onRecord q) on ∙ off-record q r b z) c
 
--- what was met is what the rules name
-pub first-met : (o : Option ℕ) (f : ℕ) → First f ≡ metOf o → o ≡ some f
-first-met none f e = absurd (let z : _≡_ {A = ℕ} 0 1 = cc in omega arith)
-first-met (some g) f e = let z : f ≡ g = cc in rw z
-
-pub nothing-met : (o : Option ℕ) → Nothing ≡ metOf o → o ≡ none
-nothing-met none e = refl
-nothing-met (some g) e = absurd (let z : _≡_ {A = ℕ} 0 1 = cc in omega arith)
-
--- no second answer and no second contents fit the contract of an access
-pub accessed-once : (R : Rules) (Y : Layout) (told : ℕ → Bool) (P : List ℕ) (r b at strand : ℕ) (P′ P″ : List ℕ) (met met′ : Met)
-    → Accessible R Y told P r b at strand → Accessed R Y told P r b at strand P′ met → Accessed R Y told P r b at strand P″ met′
-    → (P′ ≡ P″) × (met ≡ met′)
-accessed-once R Y told P r b at strand P′ P″ met met′ K A B =
+-- no second contents fit the contract of an access
+pub accessed-once : (R : Rules) (Y : Layout) (told : ℕ → Bool) (P : List ℕ) (r b at strand : ℕ) (P′ P″ : List ℕ)
+    → Accessible R Y told P r b at strand → Accessed R Y told P r b at strand P′ → Accessed R Y told P r b at strand P″ → P′ ≡ P″
+accessed-once R Y told P r b at strand P′ P″ K A B =
     let x = A (K .T) (K .n) (K .records) (K .P₀) (K .arriving) in
     let y = B (K .T) (K .n) (K .records) (K .P₀) (K .arriving) in
-    (shown-unique R (K .T) Y (K .records) (K .P₀) (suc (K .n)) P′ P″ (x .1) (y .1), x .0 ∙ sym (y .0))
+    shown-unique R (K .T) Y (K .records) (K .P₀) (suc (K .n)) P′ P″ x y

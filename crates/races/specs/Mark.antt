@@ -1,6 +1,5 @@
 -- What the mark `VJT1` says: the two kinds of access as classes, the rules of the places, where the lent buffer has them, and how a trace
 -- of events is read.
-use mathlib.Core.List.{List}
 use mathlib.Core.Bool.{Bool, true, false, _||_}
 use Prim.Native.Nat.{ℕ, zero, suc, _+_, _*_}
 use lib.Dec.{eqb}
@@ -16,8 +15,6 @@ use Rattle.relation.specs.Walk.{par}
 use Rattle.races.specs.Trace.{Act, other, access, Trace}
 use Rattle.races.specs.Rules.{Rules}
 use Rattle.races.specs.Entries.{Layout}
-use Rattle.races.specs.Shown.{Accessed}
-use Rattle.races.specs.declared.Met.the-variants.{First}
 
 -- the order of naming: the last write, "otherwise the standing read"
 abbrev pub rank : Kind → ℕ
@@ -48,8 +45,3 @@ two wrote stood (suc (suc c)) = false
 -- a trace of events
 abbrev pub eventTrace : (ℕ → Event) → Trace
 eventTrace ev = record { act = λ n. actOf (accessOf (ev n)); par = par (moves ev); strand = strandAt (moves ev) }
-
--- Event f is the one to be named with any access of record r whose last write the engine says is parallel to it, whatever it says of the
--- standing read; and no place changes.
-abbrev pub NamesLastWrite : List ℕ → ℕ → ℕ → Type 0
-NamesLastWrite P r f = (stood : Bool) (b at strand : ℕ) → Accessed rules layout (two true stood) P r b at strand P (First f)

@@ -11,13 +11,6 @@ use Rattle.races.specs.Rules.{Rules, Fit}
 use Rattle.races.specs.Places.{holds, parTo, held, firstOf}
 use Rattle.races.specs.Records.{secondOf, stopOf}
 use Rattle.races.specs.Entries.{Layout, Laid, Holding}
-use Rattle.races.specs.declared.Met.{Met}
-use Rattle.races.specs.declared.Met.the-variants.{First, Nothing}
-
--- the access that is found, if any
-abbrev pub metOf : Option ℕ → Met
-metOf none = Nothing
-metOf (some f) = First f
 
 -- An access of class b, with the engine's word: class c is named if it conflicts and is told parallel, and no smaller one is both.
 module _ (R : Rules) (b : ℕ) (told : ℕ → Bool) where
@@ -67,9 +60,7 @@ pub record Accessible (R : Rules) (Y : Layout) (told : ℕ → Bool) (P : List �
   pub P₀ : List ℕ
   pub arriving : Arriving R T Y n records P₀ P r b at strand told
 
--- What it gives, for every such trace: the access that the rules name, or nothing; and the places one event further. "The racing access
--- itself changes no place": the record is frozen from here on, and `Shown` says so.
-abbrev pub Accessed : Rules → Layout → (ℕ → Bool) → List ℕ → ℕ → ℕ → ℕ → ℕ → List ℕ → Met → Type 0
-Accessed R Y told P r b at strand P′ met =
-    (T : Trace) (n records : ℕ) (P₀ : List ℕ) → Arriving R T Y n records P₀ P r b at strand told
-    → (met ≡ metOf (firstOf R T r n)) × Shown R T Y (suc n) records P₀ P′
+-- What it gives, for every such trace, if it races with nothing: the places one event further.
+abbrev pub Accessed : Rules → Layout → (ℕ → Bool) → List ℕ → ℕ → ℕ → ℕ → ℕ → List ℕ → Type 0
+Accessed R Y told P r b at strand P′ =
+    (T : Trace) (n records : ℕ) (P₀ : List ℕ) → Arriving R T Y n records P₀ P r b at strand told → Shown R T Y (suc n) records P₀ P′

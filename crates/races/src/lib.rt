@@ -2,22 +2,16 @@
 // has said which of the two are parallel to it. No label and no set is known here. The theory of races stands in specs/ and proofs/.
 ghost use mathlib.Core.Path.{_≡_};
 ghost use mathlib.Core.Bool.{false, cond};
-ghost use Prim.Native.Nat.{_+_, _<_, _≤_};
+ghost use Prim.Native.Nat.{_+_, _*_, _<_, _≤_};
 ghost use lib.ListN.{length, getD};
 ghost use Rattle.jobfile.specs.Lent.{was, is};
 ghost use Rattle.races.specs.Entries.{put, filled, Empty};
-ghost use Rattle.races.specs.Shown.{Accessible, Accessed};
-ghost use Rattle.races.specs.Mark.{rank, rules, layout, two, NamesLastWrite};
+ghost use Rattle.races.specs.Shown.{NamesNone, Accessible, Accessed};
+ghost use Rattle.races.specs.Mark.{rank, rules, layout, two};
 use jobfile::Kind;
 use limits::ITS_STRAND;
 use limits::NO_PLACE;
 use limits::STANDING_READS;
-
-// What an access finds: the first access of a race with it, or nothing.
-pub enum Met {
-    First(usize),
-    Nothing,
-}
 
 // Empties the places of every record below `records`.
 // requires: the places have their length and the records their limit; judging refuses others before it stores anything.
@@ -45,50 +39,40 @@ fn empty(places: &mut [u32], from: usize, records: usize)
     }
 }
 
-// The event of record r's last write: an access of the record races with it if it is parallel to that, whatever the standing read is.
-// requires: the record has its place.
-pub fn last_write(places: &[u32], r: usize) -> usize
-    requires { ⌜ r < length (now places) ⌝ }
-    ensures { λ f. ⌜ f ≡ getD (was places) r 0 ⌝ }
-    ensures { λ f. ⌜ NamesLastWrite (was places) r f ⌝ }
+// The event that the place of a kind holds: the last write's of record r, or the standing read's.
+// requires: the record has its places.
+pub fn held(places: &[u32], kind: Kind, r: usize) -> usize
+    requires { ⌜ 8192 + r < length (now places) ⌝ }
+    ensures { λ f. ⌜ f ≡ getD (was places) (8192 * rank kind + r) 0 ⌝ }
 {
-    wide(places[r])
+    wide(places[place_of(kind) + r])
 }
 
-// Event `at`, in `strand`, accesses record r, whose last write is not parallel to it. `stood`: the standing read is there and parallel to it.
-// A read stands if no read does, or if the standing one is before it; and else that one is put again, since a processor cannot foresee
-// which. A write races with the standing read; where it does not, it is the last write.
+// Event `at`, in `strand`, accesses record r and races with nothing: neither the last write nor, if this is a write, the standing read is
+// parallel to it. `stood`: the standing read is there and parallel to it.
+// A write is the last write. A read stands if no read does, or if the standing one is before it; and else that one is put again. A processor
+// cannot foresee which it is, nor whether it is a read or a write: so nothing here branches.
 // requires: the places show the events before this one, the record has not raced, and the engine has told the truth about both.
-pub fn access(
-    places: &mut [u32],
-    kind: Kind,
-    r: usize,
-    at: usize,
-    strand: usize,
-    stood: bool,
-) -> Met
+pub fn access(places: &mut [u32], kind: Kind, r: usize, at: usize, strand: usize, stood: bool)
     requires { ⌜ Accessible rules layout (two false stood) (now places) r (rank kind) at strand ⌝ }
+    requires { ⌜ NamesNone rules (rank kind) (two false stood) ⌝ }
     requires { ⌜ 12288 + r < length (now places) ⌝ }
-    ensures { λ m. ⌜ Accessed rules layout (two false stood) (was places) r (rank kind) at strand (is places) m ⌝ }
+    ensures { λ _. ⌜ Accessed rules layout (two false stood) (was places) r (rank kind) at strand (is places) ⌝ }
+{
+    let place = place_of(kind) + r;
+    let event = pick(stood, places[place], at as u32);
+    let held = pick(stood, places[place + ITS_STRAND], strand as u32);
+    put(places, place, event, held);
+}
+
+// Where the events of a kind's places begin.
+fn place_of(kind: Kind) -> usize
+    ensures { λ p. ⌜ p ≡ 8192 * rank kind ⌝ }
+    ensures { λ p. ⌜ p ≤ 8192 ⌝ }
 {
     match kind {
-        Kind::Read => {
-            let event = pick(stood, places[STANDING_READS + r], at as u32);
-            let held = pick(
-                stood,
-                places[STANDING_READS + ITS_STRAND + r],
-                strand as u32,
-            );
-            put(places, STANDING_READS + r, event, held);
-            Met::Nothing
-        }
-        Kind::Write => {
-            if stood {
-                return Met::First(wide(places[STANDING_READS + r]));
-            }
-            put(places, r, at as u32, strand as u32);
-            Met::Nothing
-        }
+        Kind::Write => 0,
+        Kind::Read => STANDING_READS,
     }
 }
 
