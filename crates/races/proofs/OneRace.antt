@@ -39,6 +39,15 @@ module _ (R : Rules) (T : Trace) where
       least-only (raced R T r) n (secondOf R T r n) none (least-is (raced R T r) n)
       (λ m h. not-true (raced R T r m) (λ t. false≢true (sym (l m h) ∙ raced-own r m t)))
 
+  -- and where no record has, nothing has
+  pub none-together : (n : ℕ) → ((r : ℕ) → secondOf R T r n ≡ none) → secondIn R T n ≡ none
+  unfolding racedAny
+  none-together n each =
+      second-least n none (λ m h.
+      let own = recordOf (T .act m) in
+      let l : Least (raced R T own) n none = rw (each own) at (least-is (raced R T own) n) in
+      l m h)
+
   -- no second: clean, and all k events are taken
   pub clean-all : (k : ℕ) → secondIn R T k ≡ none → (verdictIn R T k ≡ clean) × (stopIn R T k ≡ k)
   unfolding verdictIn stopIn
