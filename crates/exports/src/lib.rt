@@ -59,6 +59,26 @@ pub extern "C" fn rz_judge(
     *answer = judge_numbers(judging::judge(file, k as usize, labels, links, places));
 }
 
+// Judges the first k events of a file, past every race, and lists the raced records with their pairs: refusal, event, records raced,
+// strands, English count, Hebrew count.
+#[no_mangle]
+pub extern "C" fn rz_judge_records(
+    file: &[u8],
+    k: u64,
+    labels: &mut [u64],
+    links: &mut [u16],
+    places: &mut [u32],
+    records: &mut [u32],
+    firsts: &mut [u32],
+    seconds: &mut [u32],
+    answer: &mut [u64; 6],
+)
+{
+    *answer = records_numbers(per_record::judge(
+        file, k as usize, labels, links, places, records, firsts, seconds,
+    ));
+}
+
 // The numbers of a checked file.
 // requires: the bound that the check gives.
 fn read_numbers(c: Checked) -> [u64; 6]
@@ -140,5 +160,26 @@ fn judge_numbers(a: judging::Answer) -> [u64; 9]
             hebrew as u64,
         ],
         judging::Answer::Refused(r) => [r.number as u64, r.event as u64, 0, 0, 0, 0, 0, 0, 0],
+    }
+}
+
+// The numbers of a judgement of every record.
+fn records_numbers(a: per_record::Answer) -> [u64; 6]
+{
+    match a {
+        per_record::Answer::Judged {
+            raced,
+            strands,
+            english,
+            hebrew,
+        } => [
+            0,
+            0,
+            raced as u64,
+            strands as u64,
+            english as u64,
+            hebrew as u64,
+        ],
+        per_record::Answer::Refused(r) => [r.number as u64, r.event as u64, 0, 0, 0, 0],
     }
 }

@@ -23,8 +23,7 @@ use limits::NO_STRAND;
 use limits::OPEN_TASKS;
 use limits::PLACES;
 use limits::STRANDS;
-use taking::Turn;
-use taking::take;
+use taking::until_race;
 
 // Clean or race, with the strands begun and both label counts; or a refusal.
 pub enum Answer {
@@ -84,7 +83,7 @@ pub fn judge_job(
 
 // The first of refusals 15, 14 and 17 that is given, or 0. A respacing of 4,096 strands ends
 // below 2^64, and one of more does not.
-fn judge_fault(j: Job, k: usize, labels: usize, links: usize, places: usize) -> u32
+pub fn judge_fault(j: Job, k: usize, labels: usize, links: usize, places: usize) -> u32
     ensures { λ r. ⌜ r ≡ judgeFault (j .events) (j .strands) k labels links places ⌝ }
     ensures { λ r. ⌜ (r ≡ 0 → (k ≤ j .events) × (8192 ≤ labels) × (16384 ≤ links) × (16384 ≤ places)) ⌝ }
     ensures { λ r. ⌜ r ≤ 17 ⌝ }
@@ -124,34 +123,21 @@ fn run(
     races::clear(places, records);
     let mut lasts = [0; OPEN_TASKS];
     let mut joins = [NO_STRAND; OPEN_TASKS];
-    let mut state = strands::begin(labels, links);
-    let mut i = 0;
-    while i < k {
-        match take(
-            part,
-            i,
-            state,
-            &mut lasts,
-            &mut joins,
-            labels,
-            links,
-            places,
-        ) {
-            Turn::Raced { first, record } => {
-                return Answer::Race {
-                    first,
-                    second: i,
-                    record,
-                    strands: state.strands,
-                    english: state.english,
-                    hebrew: state.hebrew,
-                };
-            }
-            Turn::Go(next) => {
-                state = next;
-            }
-        }
-        i += 1;
+    let begun = strands::begin(labels, links);
+    let reach = until_race(
+        part, 0, k, begun, &mut lasts, &mut joins, labels, links, places,
+    );
+    let state = reach.state;
+    if reach.at < k {
+        let found = taking::find(part, reach.at, state, labels, places);
+        return Answer::Race {
+            first: races::held(places, found.kind, found.record),
+            second: reach.at,
+            record: found.record,
+            strands: state.strands,
+            english: state.english,
+            hebrew: state.hebrew,
+        };
     }
     Answer::Clean {
         strands: state.strands,

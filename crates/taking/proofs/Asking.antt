@@ -29,7 +29,7 @@ use Rattle.races.proofs.Shown.{told-by}
 use Rattle.races.proofs.Mark.{places-laid}
 use Rattle.races.proofs.Events.{lawful, fit}
 use Rattle.taking.specs.Buffers.{Buffers, ordersIn}
-use Rattle.taking.specs.Asking.{heldOr, heldAbove, Askable}
+use Rattle.taking.specs.Asking.{heldOr, heldAbove}
 use Rattle.taking.specs.Turns.{Run, Midway}
 
 pub run-rooted : {part : List ℕ} {records k : ℕ} → Run part records k → (n : ℕ) → n ≤ k → Rooted (moves (eventAt part)) n
@@ -50,19 +50,15 @@ module _ {part : List ℕ} {records k : ℕ} {B₀ B : Buffers} {T : OpenTasks} 
   pub on-record : (kind : Kind) (r : ℕ) → accessOf (eventAt part i) ≡ To kind r → r < records
   on-record kind r e = let b : RecordBelow records (To kind r) = rw e at (R .accepted .record-below i (omega (arith, R .within))) in b
 
-  -- a place may be asked
-  pub askable : (at : ℕ) → at < 12288 → Askable (B .places) (B .labels) at (now .strands - 1)
-  askable at h = record {
-    inside = omega (arith, S .places-room);
-    labels = S .reached .labels-room;
-    begun = omega (arith, strand-is, labelled i (omega arith));
-  }
+  -- the current strand has a label
+  pub current-labelled : now .strands - 1 < 4096
+  current-labelled = omega (arith, strand-is, labelled i (omega arith))
 
-  -- and what asking it answers
+  -- what asking a place answers
   asked : (r c : ℕ) → HasPlace layout records r c → secondOf rules (eventTrace (eventAt part)) r i ≡ none
       → heldAbove (B .labels) (B .places) (8192 * c + r) (now .strands - 1)
       ≡ holds (parTo (eventTrace (eventAt part)) i) (held rules (eventTrace (eventAt part)) r c i)
-  unfolding heldAbove heldOr
+  unfolding heldOr
   asked r c here unraced =
       let L = B .labels in
       let s = now .strands - 1 in

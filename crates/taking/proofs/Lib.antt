@@ -1,3 +1,4 @@
 pub mod Asking
 pub mod Turned
-pub mod OneTurn
+pub mod Finding
+pub mod Reaching

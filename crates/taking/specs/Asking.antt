@@ -1,21 +1,26 @@
 -- The question that judging asks of a place: whether what it holds is parallel to the current strand, by the Hebrew labels.
 use mathlib.Core.List.{List}
 use mathlib.Core.Bool.{Bool, cond}
-use Prim.Native.Nat.{ℕ, _+_, _<_, _≤_}
-use lib.ListN.{length, getD}
+use Prim.Native.Nat.{ℕ, _+_}
+use lib.ListN.{getD}
 use lib.Dec.{ltb}
+use Rattle.jobfile.specs.declared.event.Kind.{Kind}
+use Rattle.jobfile.specs.declared.event.Kind.the-variants.{Write, Read}
 
 -- the strand that a place holds, or the one given where that is none: "4,294,967,295 is none, for an event and its strand alike"
 unfoldable pub heldOr : ℕ → ℕ → ℕ
 heldOr held strand = cond (ltb held 4096) held strand
 
--- the strand that the place holds, whose event is at `at`, has a label above that of the strand asked for; a place that holds none is
--- asked with that strand itself, whose label is not above its own
-unfoldable pub heldAbove : List ℕ → List ℕ → ℕ → ℕ → Bool
-heldAbove L P at strand = ltb (getD L (4096 + strand) 0) (getD L (4096 + heldOr (getD P (at + 4096) 0) strand) 0)
+-- the Hebrew label of a strand is above that of the strand asked for
+abbrev pub labelAbove : List ℕ → ℕ → ℕ → Bool
+labelAbove L strand other = ltb (getD L (4096 + strand) 0) (getD L (4096 + other) 0)
 
--- the place may be asked: its entries are there, and so are the labels of all strands
-pub record Askable (P L : List ℕ) (at strand : ℕ) : Type 0 where
-  pub inside : at + 4096 < length P
-  pub labels : 8192 ≤ length L
-  pub begun : strand < 4096
+-- the same of the strand that the place holds, whose event is at `at`; a place that holds none is asked with the current strand itself,
+-- whose label is not above its own
+abbrev pub heldAbove : List ℕ → List ℕ → ℕ → ℕ → Bool
+heldAbove L P at strand = labelAbove L strand (heldOr (getD P (at + 4096) 0) strand)
+
+-- with which strand the standing read's place is asked whether an access races with it: a read does not, and is asked with its own
+abbrev pub clashingOf : Kind → ℕ → ℕ → ℕ
+clashingOf Write read strand = read
+clashingOf Read read strand = strand
