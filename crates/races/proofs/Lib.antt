@@ -11,5 +11,6 @@ pub mod Emptied
 pub mod Mark
 pub mod Events
 pub mod LastAndStanding
+pub mod NamedOn
 pub mod Named
 pub mod Cases

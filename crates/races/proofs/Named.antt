@@ -1,136 +1,71 @@
--- 01's words and the theory of races: a race and the named pair are those of the earliest record, the verdict names that pair and no other
--- fits, and what the places show where judging stops. Assumes nothing.
-use mathlib.Core.Path.{_≡_, refl, sym, ap, _∙_}
-use mathlib.Core.Logic.{inl, inr, _↔_}
+-- 01's words and the theory of races: the named pair is that of the earliest record, the verdict names it and no other fits, it is the
+-- record's own pair with the smallest second, and what the places show where judging stops. Assumes nothing.
+use mathlib.Core.Path.{_≡_, refl, ap, _∙_}
+use mathlib.Core.Logic.{_↔_}
 use mathlib.Core.List.{List}
-use mathlib.Core.Bool.{true, _||_}
 use mathlib.Core.Option.{Option, none, some, Option·getD}
-use Prim.Native.Nat.{ℕ, zero, suc, _+_, _*_, _≤_, _<_}
+use Prim.Native.Nat.{ℕ, _+_, _*_, _≤_, _<_}
 use native.Mathlib.Omega.{arith}
 use native.Mathlib.Decide.{decLe}
 use lib.ListN.{getD}
-use Rattle.jobfile.specs.Events.{accessOf}
 use Rattle.jobfile.specs.Trace.{moves}
 use Rattle.jobfile.specs.declared.event.Event.{Event}
-use Rattle.jobfile.specs.declared.event.Kind.the-variants.{Read}
-use Rattle.jobfile.specs.declared.event.Access.the-variants.{To}
 use Rattle.relation.specs.Parallel.{Parallel, Rooted}
 use Rattle.relation.specs.Strand.{strandAt}
 use Rattle.relation.proofs.Laws.{rooted-less}
-use Rattle.races.specs.Trace.{classOf}
-use Rattle.races.specs.Places.{held}
-use Rattle.races.specs.Records.{Verdict, clean, race, secondIn, verdictAt, verdictIn, stopIn, RaceOn, FirstOn, PairOn, OneRace}
+use Rattle.races.specs.Records.{Verdict, clean, race, secondIn, verdictAt, verdictIn, stopIn, OneRace}
 use Rattle.races.specs.Entries.{eventOr, strandOr, HasPlace}
 use Rattle.races.specs.Shown.{Shown}
-use Rattle.races.specs.Mark.{rank, actOf, isWrite, rules, layout, eventTrace}
-use Rattle.races.specs.Race.{conflict, Race}
-use Rattle.races.specs.Named.{LastWrite, Standing, First, Named}
+use Rattle.races.specs.Mark.{rules, layout, eventTrace}
+use Rattle.races.specs.Race.{Race}
+use Rattle.races.specs.Named.{LastWrite, Standing, Named, NamedOn, SmallestSecond}
 use Rattle.races.specs.Verdict.{lastWrite, standing, verdict, stopAt}
 use Rattle.races.proofs.Places.{stop-none}
-use Rattle.races.proofs.Records.{race-early}
 use Rattle.races.proofs.OneRace.{all-unraced, stop-quiet, stop-within, verdict-earliest, verdict-none, one-race-only}
-use Rattle.races.proofs.Events.{access-of, clash-is, lawful, fit, tied}
-use Rattle.races.proofs.LastAndStanding.{last-write-is, no-last-write, standing-is, no-standing, standing-read}
+use Rattle.races.proofs.Events.{lawful, fit, tied}
+use Rattle.races.proofs.LastAndStanding.{last-write-is, no-last-write, standing-is, no-standing}
+use Rattle.races.proofs.NamedOn.{named-on-is, race-free-is, raced-has-pair}
 
 module _ (ev : ℕ → Event) where
-  -- a race is one of its record
-  race-on : (m j r : ℕ) (P : Race ev m j) → P .number ≡ r → RaceOn rules (eventTrace ev) (Parallel (moves ev)) r m j
-  race-on m j r P on = record {
-    a = rank (P .first-kind);
-    b = rank (P .second-kind);
-    earlier = P .earlier;
-    first = ap actOf (P .first) ∙ rw on;
-    second = ap actOf (P .second) ∙ rw on;
-    clash = clash-is (P .first-kind) (P .second-kind) ∙ P .clash;
-    parallel = P .parallel;
-  }
-
-  on-race : (m j r : ℕ) → RaceOn rules (eventTrace ev) (Parallel (moves ev)) r m j → (P : Race ev m j) × (P .number ≡ r)
-  on-race m j r P =
-      let x = access-of (accessOf (ev m)) r (P .a) (P .first) in
-      let y = access-of (accessOf (ev j)) r (P .b) (P .second) in (
-        record {
-          number = r;
-          first-kind = x .0;
-          second-kind = y .0;
-          earlier = P .earlier;
-          first = x .1;
-          second = y .1;
-          clash = sym (clash-is (x .0) (y .0)) ∙ rw (x .2, y .2) (P .clash);
-          parallel = P .parallel;
-        },
-        refl,
-      )
-
   -- there is no race with its second before j
   abbrev pub RaceFree : ℕ → Type 0
   RaceFree j = (m n : ℕ) → n < j → ¬ Race ev m n
 
   module _ (k : ℕ) (root : Rooted (moves ev) k) where
-    -- the rule of the first
-    first-to : (i j r : ℕ) (P : Race ev i j) → P .number ≡ r → j < k → First ev i j r
-        → FirstOn rules (eventTrace ev) (Parallel (moves ev)) r i j
-    first-to i j r P on jk (inl x) = record {
-      class = 0;
-      below = omega arith;
-      clash = refl;
-      holds = last-write-is ev r j i .1 (x .0);
-      smallest = λ d w l c e Q. absurd (omega arith);
-    }
-    first-to i j r P on jk (inr x) =
-        let same : To (P .first-kind) (P .number) ≡ To Read r = sym (P .first) ∙ standing-read ev r (x .1) .1 in
-        let reads : P .first-kind ≡ Read = cc in
-        let clash : conflict Read (P .second-kind) ≡ true = rw reads at (P .clash) in
-        let class : classOf (actOf (accessOf (ev j))) ≡ rank (P .second-kind) = ap (λ a. classOf (actOf a)) (P .second) in
-        record {
-          class = 1;
-          below = omega arith;
-          clash = rw class (clash-is Read (P .second-kind) ∙ clash);
-          holds = standing-is ev r j i (rooted-less (moves ev) j k (omega arith) root) .1 (x .1);
-          smallest = λ d w l c e Q. let z : d ≡ 0 = omega arith in x .0 w (last-write-is ev r j w .0 (rw z at e)) Q;
-        }
-
-    first-from : (i j r : ℕ) → Parallel (moves ev) i j → j < k → FirstOn rules (eventTrace ev) (Parallel (moves ev)) r i j → First ev i j r
-    first-from i j r P jk F = go (F .class) (F .below) (F .holds) (F .smallest)
+    -- it is the record's own pair with the smallest second
+    smallest-to : (i j r : ℕ) → Named ev k i j r → NamedOn ev k i j r × SmallestSecond ev k j
+    smallest-to i j r N = (
+      record { within = N .within; is-race = N .is-race; on-record = N .on-record; earliest = λ m n l P on. N .earliest m n l P; first = N .first },
+      λ m n q M. go m n q M (decLe j n),
+    )
       where
-        go : (c : ℕ) → c < 2 → held rules (eventTrace ev) r c j ≡ some i
-            → ((d w : ℕ) → d < c → (isWrite d || isWrite (classOf (actOf (accessOf (ev j))))) ≡ true → held rules (eventTrace ev) r d j ≡ some w
-            → ¬ Parallel (moves ev) w j)
-            → First ev i j r
-        go zero l h s = inl (last-write-is ev r j i .0 h, P)
-        go (suc zero) l h s =
-            let up-to-j = rooted-less (moves ev) j k (omega arith) root in
-            inr (λ w e. s 0 w (omega arith) refl (last-write-is ev r j w .1 e), standing-is ev r j i up-to-j .0 h)
-        go (suc (suc c)) l h s = absurd (omega arith)
+        go : (m n q : ℕ) → NamedOn ev k m n q → Dec (j ≤ n) → j ≤ n
+        go m n q M (yes h) = h
+        go m n q M (no h) = absurd (N .earliest m n (omega arith) (M .is-race))
+
+    smallest-from : (i j r : ℕ) → NamedOn ev k i j r × SmallestSecond ev k j → Named ev k i j r
+    smallest-from i j r (N, least) = record {
+      within = N .within;
+      is-race = N .is-race;
+      on-record = N .on-record;
+      earliest = λ m n l P.
+          let w = raced-has-pair ev k root m n (P .number) (omega (arith, N .within)) P refl in
+          absurd (omega (arith, w .3, least (w .0) (w .1) (P .number) (w .2)));
+      first = N .first;
+    }
+
+    -- "the pair with the smallest second event"
+    pub named-smallest : (i j r : ℕ) → Named ev k i j r ↔ (NamedOn ev k i j r × SmallestSecond ev k j)
+    named-smallest i j r = (smallest-to i j r, smallest-from i j r)
 
     named-to : (i j r : ℕ) → Named ev k i j r → OneRace rules (eventTrace ev) (Parallel (moves ev)) k i j r
-    named-to i j r N = record {
-      named = record {
-        within = N .within;
-        is-race = race-on i j r (N .is-race) (N .on-record);
-        earliest = λ m n l P. N .earliest m n l (on-race m n r P .0);
-        first = first-to i j r (N .is-race) (N .on-record) (N .within) (N .first);
-      };
-      least = λ q m n M. go q m n M (decLe j n);
-    }
-      where
-        go : (q m n : ℕ) → PairOn rules (eventTrace ev) (Parallel (moves ev)) q k m n → Dec (j ≤ n) → j ≤ n
-        go q m n M (yes h) = h
-        go q m n M (no h) = absurd (N .earliest m n (omega arith) (on-race m n q (M .is-race) .0))
+    named-to i j r N =
+        let w = smallest-to i j r N in
+        record { named = named-on-is ev k root i j r .0 (w .0); least = λ q m n M. w .1 m n q (named-on-is ev k root m n q .1 M) }
 
     named-from : (i j r : ℕ) → OneRace rules (eventTrace ev) (Parallel (moves ev)) k i j r → Named ev k i j r
     named-from i j r W =
-        let x = on-race i j r (W .named .is-race) in
-        record {
-          within = W .named .within;
-          is-race = x .0;
-          on-record = x .1;
-          earliest = λ m n l P.
-              let w = race-early rules (eventTrace ev) (lawful ev) (fit ev) (Parallel (moves ev)) k (tied ev k root) (P .number) m n
-              (omega (arith, W .named .within)) (race-on m n (P .number) P refl) in
-              absurd (omega (arith, w .2, W .least (P .number) (w .0) (w .1) (w .3)));
-          first = first-from i j r (W .named .is-race .parallel) (W .named .within) (W .named .first);
-        }
+        smallest-from i j r (named-on-is ev k root i j r .1 (W .named), λ m n q M. W .least q m n (named-on-is ev k root m n q .0 M))
 
     -- the pair that 01 names is the earliest of the records' pairs
     pub named-is : (i j r : ℕ) → Named ev k i j r ↔ OneRace rules (eventTrace ev) (Parallel (moves ev)) k i j r
@@ -152,8 +87,22 @@ module _ (ev : ℕ → Event) where
   pub verdict-clean : (k : ℕ) → Rooted (moves ev) k → (verdict ev k ≡ clean) ↔ RaceFree k
   verdict-clean k root =
       let v = verdict-none rules (eventTrace ev) (lawful ev) (fit ev) (Parallel (moves ev)) k (tied ev k root) in (
-        λ e m n l P. v .0 e (P .number) m n l (race-on m n (P .number) P refl),
-        λ free. v .1 (λ r m n l P. free m n l (on-race m n r P .0)),
+        λ e m n l P. race-free-is ev k root (P .number) .1 (v .0 e (P .number)) m n l P refl,
+        λ free. v .1 (λ r. race-free-is ev k root r .0 (λ m n l P on. free m n l P)),
+      )
+
+  -- "The one-race call stays and gives the pair with the smallest second event."
+  pub verdict-smallest : (k i j r : ℕ) → Rooted (moves ev) k → (verdict ev k ≡ race i j r) ↔ (NamedOn ev k i j r × SmallestSecond ev k j)
+  verdict-smallest k i j r root =
+      let v = verdict-race k i j r root in
+      (λ e. smallest-to k root i j r (v .0 e), λ N. v .1 (smallest-from k root i j r N))
+
+  -- and it is clean exactly if no record has a pair
+  pub verdict-no-pair : (k : ℕ) → Rooted (moves ev) k → (verdict ev k ≡ clean) ↔ ((i j r : ℕ) → ¬ NamedOn ev k i j r)
+  verdict-no-pair k root =
+      let v = verdict-clean k root in (
+        λ e i j r N. v .0 e i j (N .within) (N .is-race),
+        λ free. v .1 (λ m n l P. let w = raced-has-pair ev k root m n (P .number) l P refl in free (w .0) (w .1) (P .number) (w .2)),
       )
 
   -- 01's four entries of record r, by the definition, just before event n: "last write's event at r, its strand at 4,096 + r, standing

@@ -1,7 +1,7 @@
--- "Which is named", in 01's words, by the definition of parallel alone.
+-- "Which is named", in 01's words, by the definition of parallel alone: of the whole job, and of each record by itself.
 use mathlib.Core.Path.{_≡_}
 use mathlib.Core.Logic.{_⊎_, _≢_}
-use Prim.Native.Nat.{ℕ, suc, _<_}
+use Prim.Native.Nat.{ℕ, suc, _≤_, _<_}
 use Rattle.jobfile.specs.Events.{accessOf}
 use Rattle.jobfile.specs.Trace.{moves}
 use Rattle.jobfile.specs.declared.event.Event.{Event}
@@ -40,3 +40,17 @@ module _ (ev : ℕ → Event) where
     -- "The second is the earliest access that races with any earlier one."
     pub earliest : (m n : ℕ) → n < j → ¬ Race ev m n
     pub first : First i j r
+
+  -- "each raced record with its own pair, named by the same rule taken within that record": event j is the second and event i the first
+  -- of record r, within the first k events
+  pub record NamedOn (k i j r : ℕ) : Type 0 where
+    pub within : j < k
+    pub is-race : Race ev i j
+    pub on-record : is-race .number ≡ r
+    -- the earliest access of the record that races with any earlier one
+    pub earliest : (m n : ℕ) → n < j → (P : Race ev m n) → P .number ≢ r
+    pub first : First i j r
+
+  -- "the smallest second event": no record's own pair has a second ahead of event j
+  abbrev pub SmallestSecond : ℕ → ℕ → Type 0
+  SmallestSecond k j = (m n q : ℕ) → NamedOn k m n q → j ≤ n
