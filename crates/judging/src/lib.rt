@@ -130,10 +130,12 @@ fn run(
     let state = reach.state;
     if reach.at < k {
         let found = taking::find(part, reach.at, state, labels, places);
+        let kind = found.kind;
+        let record = found.record;
         return Answer::Race {
-            first: races::held(places, found.kind, found.record),
+            first: races::held(places, kind, record),
             second: reach.at,
-            record: found.record,
+            record,
             strands: state.strands,
             english: state.english,
             hebrew: state.hebrew,

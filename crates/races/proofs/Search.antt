@@ -76,3 +76,9 @@ module _ (test : ℕ → Bool) where
       go (yes a) (yes b) = let e : i ≡ j = omega arith in rw e
       go (yes a) (no b) = absurd (false≢true (sym (g .2 i (omega arith)) ∙ f .1))
       go (no a) b = absurd (false≢true (sym (f .2 j (omega arith)) ∙ g .1))
+
+  -- the least below a number is the least below any greater one
+  pub least-kept : (m n j : ℕ) → m ≤ n → least test m ≡ some j → least test n ≡ some j
+  least-kept m n j h e =
+      let l : Least m (some j) = rw e at (least-is m) in
+      least-only n (least test n) (some j) (least-is n) (omega (arith, l .0), l .1, l .2)

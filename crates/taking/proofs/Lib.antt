@@ -2,3 +2,4 @@ pub mod Asking
 pub mod Turned
 pub mod Finding
 pub mod Reaching
+pub mod OneTurn
