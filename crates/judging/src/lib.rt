@@ -125,7 +125,15 @@ fn run(
     let mut joins = [NO_STRAND; OPEN_TASKS];
     let begun = strands::begin(labels, links);
     let reach = until_race(
-        part, 0, k, begun, &mut lasts, &mut joins, labels, links, places,
+        part,
+        0,
+        k,
+        begun,
+        &mut lasts,
+        &mut joins,
+        labels,
+        links,
+        places,
     );
     let state = reach.state;
     if reach.at < k {

@@ -137,8 +137,7 @@ access-requires c κs =
     let wrote = rw (past .before .before .before .held-or .ensures .0, past .before .before .before .before .wide .ensures) at (sym (past .if1 .left) ∙ past .before .above .ensures) in
     let stood = rw (both .before .before .before .before .held-or2 .ensures .0, both .before .before .before .before .before .wide2 .ensures) at (c .above3 .ensures) in
     let clear = rw (both .before .before .clashing .ensures .0, both .before .before .before .before .held-or2 .ensures .0, both .before .before .before .before .before .wide2 .ensures) at (sym (both .if2 .left) ∙ both .before .above2 .ensures) in
-    let below = record-below asked _ (read .event-at .ensures) _ _ to in
-    (
+    let below = record-below asked _ (read .event-at .ensures) _ _ to in (
       accessible asked _ (read .event-at .ensures) _ _ to wrote _ stood clear,
       (names-nothing asked _ (read .event-at .ensures) _ _ to wrote _ stood clear, omega (arith, asked .midway .places-room)),
     )
