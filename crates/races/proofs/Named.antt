@@ -13,7 +13,7 @@ use Rattle.jobfile.specs.declared.event.Event.{Event}
 use Rattle.relation.specs.Parallel.{Parallel, Rooted}
 use Rattle.relation.specs.Strand.{strandAt}
 use Rattle.relation.proofs.Laws.{rooted-less}
-use Rattle.races.specs.Records.{Verdict, clean, race, secondIn, verdictAt, verdictIn, stopIn, OneRace}
+use Rattle.races.specs.Records.{no-pair, pair, Verdict, clean, race, secondOf, stopOf, pairAt, pairOf, secondIn, verdictAt, verdictIn, stopIn, OneRace}
 use Rattle.races.specs.Entries.{eventOr, strandOr, HasPlace}
 use Rattle.races.specs.Shown.{Shown}
 use Rattle.races.specs.Mark.{rules, layout, eventTrace}
@@ -24,7 +24,7 @@ use Rattle.races.proofs.Places.{stop-none}
 use Rattle.races.proofs.OneRace.{all-unraced, stop-quiet, stop-within, verdict-earliest, verdict-none, one-race-only}
 use Rattle.races.proofs.Events.{lawful, fit, tied}
 use Rattle.races.proofs.LastAndStanding.{last-write-is, no-last-write, standing-is, no-standing}
-use Rattle.races.proofs.NamedOn.{named-on-is, race-free-is, raced-has-pair}
+use Rattle.races.proofs.NamedOn.{RaceFreeOn, named-on-is, race-free-is, pair-named, pair-free, raced-has-pair}
 
 module _ (ev : ℕ → Event) where
   -- there is no race with its second before j
@@ -113,11 +113,10 @@ module _ (ev : ℕ → Event) where
     pub read : (s : ℕ) → Standing ev r n s → (getD P (8192 + r) 0 ≡ s) × (getD P (12288 + r) 0 ≡ strandAt (moves ev) s)
     pub unread : ((s : ℕ) → ¬ Standing ev r n s) → (getD P (8192 + r) 0 ≡ 4294967295) × (getD P (12288 + r) 0 ≡ 4294967295)
 
-  -- the places show them while nothing has raced
-  shown-entries : (n records : ℕ) (P₀ P : List ℕ) → Rooted (moves ev) n → secondIn rules (eventTrace ev) n ≡ none
-      → Shown rules (eventTrace ev) layout n records P₀ P → (r : ℕ) → r < records → Entries n r P
-  shown-entries n records P₀ P root e S r l =
-      let stop = stop-none rules (eventTrace ev) r n (all-unraced rules (eventTrace ev) n e r) in
+  -- the places show them as they were at the record's own stop
+  shown-entries : (m n records : ℕ) (P₀ P : List ℕ) → Rooted (moves ev) n → Shown rules (eventTrace ev) layout m records P₀ P
+      → (r : ℕ) → r < records → stopOf rules (eventTrace ev) r m ≡ n → Entries n r P
+  shown-entries m n records P₀ P root S r l stop =
       let wrote : HasPlace layout records r 0 = record { on-record = l; below = omega arith } in
       let stands : HasPlace layout records r 1 = record { on-record = l; below = omega arith } in
       let w : 8192 * 0 + r ≡ r = omega arith in
@@ -134,6 +133,23 @@ module _ (ev : ℕ → Event) where
         read = λ m D. let z = standing-is ev r n m root .1 D in (read ∙ ap eventOr z, read-strand ∙ ap (strandOr (strandAt (moves ev))) z);
         unread = λ f. let z = no-standing ev r n root .1 f in (read ∙ ap eventOr z, read-strand ∙ ap (strandOr (strandAt (moves ev))) z);
       }
+
+  -- up to where the places of a record that has a pair, or none, follow
+  pair-stop : (k r i j : ℕ) → pairOf rules (eventTrace ev) r k ≡ pair i j → stopOf rules (eventTrace ev) r k ≡ j
+  unfolding pairOf stopOf
+  pair-stop k r i j = by (secondOf rules (eventTrace ev) r k)
+    where
+      by : (o : Option ℕ) → pairAt rules (eventTrace ev) r o ≡ pair i j → Option·getD o k ≡ j
+      by none e = absurd (let z : _≡_ {A = ℕ} 0 1 = cc in omega arith)
+      by (some n) e = cc
+
+  no-pair-stop : (k r : ℕ) → pairOf rules (eventTrace ev) r k ≡ no-pair → stopOf rules (eventTrace ev) r k ≡ k
+  unfolding pairOf stopOf
+  no-pair-stop k r = by (secondOf rules (eventTrace ev) r k)
+    where
+      by : (o : Option ℕ) → pairAt rules (eventTrace ev) r o ≡ no-pair → Option·getD o k ≡ k
+      by none e = refl
+      by (some n) e = absurd (let z : _≡_ {A = ℕ} 0 1 = cc in omega arith)
 
   -- judging stops at the racing event, or after k events
   abbrev stopBy : ℕ → Verdict → ℕ
@@ -155,6 +171,19 @@ module _ (ev : ℕ → Event) where
   -- where judging k events stops, nothing has raced: so the buffer shows the last write and the standing read of every record
   pub stop-entries : (k records : ℕ) (P₀ P : List ℕ) → Rooted (moves ev) k → Shown rules (eventTrace ev) layout (stopAt ev k) records P₀ P
       → (r : ℕ) → r < records → Entries (stopAt ev k) r P
-  stop-entries k records P₀ P root =
-      shown-entries (stopAt ev k) records P₀ P (rooted-less (moves ev) (stopAt ev k) k (stop-within rules (eventTrace ev) k) root)
-      (stop-quiet rules (eventTrace ev) k)
+  stop-entries k records P₀ P root S r l =
+      let n = stopAt ev k in
+      shown-entries n n records P₀ P (rooted-less (moves ev) n k (stop-within rules (eventTrace ev) k) root) S r l
+      (stop-none rules (eventTrace ev) r n (all-unraced rules (eventTrace ev) n (stop-quiet rules (eventTrace ev) k) r))
+
+  -- "A record's places freeze at its race": past every race they show what they held just before the second of the record's own, and those
+  -- of a record that has none what they hold behind all k events
+  pub frozen-entries : (k records : ℕ) (P₀ P : List ℕ) → Rooted (moves ev) k → Shown rules (eventTrace ev) layout k records P₀ P
+      → (r : ℕ) → r < records → (i j : ℕ) → NamedOn ev k i j r → Entries j r P
+  frozen-entries k records P₀ P root S r l i j N =
+      shown-entries k j records P₀ P (rooted-less (moves ev) j k (omega (arith, N .within)) root) S r l
+      (pair-stop k r i j (pair-named ev k root i j r .1 N))
+
+  pub following-entries : (k records : ℕ) (P₀ P : List ℕ) → Rooted (moves ev) k → Shown rules (eventTrace ev) layout k records P₀ P
+      → (r : ℕ) → r < records → RaceFreeOn ev r k → Entries k r P
+  following-entries k records P₀ P root S r l free = shown-entries k k records P₀ P root S r l (no-pair-stop k r (pair-free ev k root r .1 free))
