@@ -1,7 +1,7 @@
 -- What judging every record of the first k events of a file answers, and when it refuses.
 use Prim.Native.Nat.{ℕ}
 use mathlib.Core.List.{List}
-use mathlib.Core.Bool.{cond}
+use mathlib.Core.Bool.{Bool, true, cond}
 use lib.Dec.{eqb, ltb}
 use lib.ListN.{length}
 use Rattle.jobfile.specs.Refusals.{refusalOf}
@@ -22,18 +22,14 @@ use Rattle.per_record.specs.declared.Answer.the-variants.{Judged, Refuse
 unfoldable pub judgedAll : (ℕ → Event) → ℕ → ℕ → Answer
 judgedAll ev k records = Judged (racedBelow ev k records) (begunAt (moves ev) k) (englishCount (moves ev) k) (hebrewCount (moves ev) k)
 
--- "16 if a list is shorter than the record count", for that count and the lengths of the three
-unfoldable pub shortList : ℕ → ℕ → ℕ → ℕ → ℕ
-shortList count records firsts seconds =
-    cond (ltb records count) 16
-    (cond (ltb firsts count) 16
-    (cond (ltb seconds count) 16
-    0))
+-- "a list is shorter than the record count", for that count and the lengths of the three
+unfoldable pub isShort : ℕ → ℕ → ℕ → ℕ → Bool
+isShort count records firsts seconds = cond (ltb records count) true (cond (ltb firsts count) true (ltb seconds count))
 
 -- 15, 14 and 17 as judging gives them, "after 14" 16; or 0
 unfoldable pub recordsFault : ℕ → ℕ → ℕ → ℕ → ℕ → ℕ → ℕ → ℕ → ℕ → ℕ → ℕ
 recordsFault events strands count k labels links places records firsts seconds =
-    cond (eqb (judgeFault events strands k labels links places) 0) (shortList count records firsts seconds)
+    cond (eqb (judgeFault events strands k labels links places) 0) (cond (isShort count records firsts seconds) 16 0)
     (judgeFault events strands k labels links places)
 
 -- the buffers and the lists that are lent: of these only the lengths count

@@ -1,5 +1,6 @@
 pub mod Lists
 pub mod Listed
+pub mod Marks
 pub mod Answers
 pub mod Rows
 pub mod Leaves

@@ -1,0 +1,5 @@
+pub mod Faults
+pub mod Stretches
+pub mod Marking
+pub mod Listing
+pub mod Entering
