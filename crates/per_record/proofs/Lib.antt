@@ -3,3 +3,4 @@ pub mod Stretches
 pub mod Marking
 pub mod Listing
 pub mod Entering
+pub mod Pairs
