@@ -24,15 +24,12 @@ use Rattle.judging.specs.declared.Answer.the-variants.{Clean, Race, Refu
 use Rattle.judging.specs.Answers.{answerWith, judgedOf, noRoom, judgeFault, afterCheck, judgeOf, numbersOf}
 use Rattle.judging.specs.Rows.{runTable, judgeTable}
 
-abbrev refuse : ℕ → ℕ → Answer
-refuse n m = Refused (refusalOf n m)
-
--- what the run answers, unless one of the three is given
-module _ (events strands k labels links places : ℕ) (run : Answer) where
-  abbrev unless : ℕ → Answer
+-- what the run answers, unless one of the three is given; for answers of any kind
+module _ {A : Type 0} (events strands k labels links places : ℕ) (run : A) (refuse : ℕ → ℕ → A) where
+  abbrev unless : ℕ → A
   unless fault = cond (eqb fault 0) run (refuse fault 0)
 
-  run-ends : Ends (runTable events strands k labels links places) run refuse (unless (judgeFault events strands k labels links places))
+  pub run-ends : Ends (runTable events strands k labels links places) run refuse (unless (judgeFault events strands k labels links places))
   unfolding judgeFault noRoom
   run-ends =
       by (ltb events k) refl (ltb labels 8192) refl (ltb links 16384) refl (ltb places 16384) refl (ltb (2 ^ 64 - 1) (spaced (strands - 1))) refl
@@ -78,6 +75,9 @@ judged-answers ev k = by (verdict ev k) _ _ _
     by clean s e h = (refl, tt)
     by (race i j r) s e h = (refl, tt)
 
+abbrev refuse : ℕ → ℕ → Answer
+refuse n m = Refused (refusalOf n m)
+
 module _ (file : List ℕ) (k labels links places : ℕ) where
   abbrev ran : Answer
   ran = judgedOf (eventAt (partIn file)) k
@@ -92,7 +92,7 @@ module _ (file : List ℕ) (k labels links places : ℕ) where
       by : (c : Checked) → ReadEnds file c → Ends (judgeTable file k labels links places) ran refuse (afterCheck c file k labels links places)
       by c (inl (e, none)) =
           rw e (ends-behind (readTable file) running ran refuse _ none
-          (run-ends (jobIn file .events) (jobIn file .strands) k labels links places ran))
+          (run-ends (jobIn file .events) (jobIn file .strands) k labels links places ran refuse))
       by c (inr (n, m, e, p, g)) = rw e (inr (n, m, refl, p, given-front (readTable file) running n m g))
 
   -- Judging is exact, for every byte string, every k and buffers of any length.
