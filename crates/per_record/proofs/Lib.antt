@@ -4,3 +4,6 @@ pub mod Marking
 pub mod Listing
 pub mod Entering
 pub mod Pairs
+pub mod Rows
+pub mod Gives
+pub mod OneAnswer

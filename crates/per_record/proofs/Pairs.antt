@@ -70,7 +70,7 @@ module _ (ev : ℕ → Event) (r k : ℕ) where
         let small : j < 1000000 = omega (arith, F .within) in
         let m : getD M r 0 ≡ markOf (rank (F .kind)) j = marks .marks r (omega arith) ∙ rw (e, F .class) in
         let event : getD P (8192 * rank (F .kind) + r) 0 ≡ F .first =
-                shown .event r (rank (F .kind)) (record { on-record = below; below = rank-below (F .kind) }) ∙ rw (e, F .holds) in
+        shown .event r (rank (F .kind)) (record { on-record = below; below = rank-below (F .kind) }) ∙ rw (e, F .holds) in
         marked M P r (λ z. omega (arith, m, mark-fits j small (F .kind)))
         ∙ rw (m, kind-back j small (F .kind), second-back j small (F .kind), event, e, F .names)
 
