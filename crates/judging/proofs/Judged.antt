@@ -58,7 +58,7 @@ module _ (file : List ℕ) (k : ℕ) (B₀ : Buffers) (T : Judgeable file k B₀
   pub few : (n : ℕ) → n ≤ k → begunAt (movesIn file) n ≤ 4096
   few n h = accepted-events .few n (omega (arith, T .within))
 
-  no-fault : judgeFault (T .job .events) (T .job .strands) k (length (B₀ .labels)) (length (B₀ .links)) (length (B₀ .places)) ≡ 0
+  pub no-fault : judgeFault (T .job .events) (T .job .strands) k (length (B₀ .labels)) (length (B₀ .links)) (length (B₀ .places)) ≡ 0
   no-fault =
       let s : T .job .strands ≤ 4096 = omega (arith, accepted-events .few (T .job .events) (omega arith), accepted-events .all) in
       sym (passes _ _ _ _ _ _ (T .within) (T .labels-fit) (T .links-fit) (T .places-fit) s)

@@ -7,3 +7,6 @@ pub mod Pairs
 pub mod Rows
 pub mod Gives
 pub mod OneAnswer
+pub mod EachRecord
+pub mod AtTheEnd
+pub mod Demands
