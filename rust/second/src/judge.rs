@@ -55,22 +55,16 @@ pub fn judge(
 ) -> Result<Judged, Refusal> {
     let job = read(file)?;
     let trace = trace_of(&job)?;
-    if k > trace.events.len() as u64 {
-        return refused(15);
-    }
-    if labels.len() < LABELS || links.len() < LINKS || places_out.len() < PLACES {
-        return refused(14);
-    }
+    check_lent(&trace, k, [labels.len(), links.len(), places_out.len()])?;
     let second = second(&trace, k as usize);
     let until = second.unwrap_or(k as usize);
-    let strands = trace.strands_by(until);
-    let (english, hebrew) = (english(strands)?, hebrew(&trace, strands)?);
-    let places = places(&trace, job.records as usize, until);
-    store_order(&english, &mut labels[..HALF_OF_LABELS], &mut links[..HALF_OF_LINKS]);
-    store_order(&hebrew, &mut labels[HALF_OF_LABELS..LABELS], &mut links[HALF_OF_LINKS..LINKS]);
+    let orders = Orders::by(&trace, until)?;
+    let places = places(&trace, &vec![until; job.records as usize]);
+    orders.store(labels, links);
     store_places(&trace, &places, places_out);
     let race = second.map(|second| named(&trace, &places, second));
-    Ok(Judged { race, strands: strands as u64, english: english.count, hebrew: hebrew.count })
+    let [strands, english, hebrew] = orders.counts();
+    Ok(Judged { race, strands, english, hebrew })
 }
 
 /// How event i of a file stands to event j: "15 for each number, then 18 for each".
@@ -92,15 +86,51 @@ pub fn question(file: &[u8], i: u64, j: u64) -> Result<Relation, Refusal> {
     })
 }
 
-fn trace_of(job: &Job) -> Result<Trace, Refusal> {
+pub fn trace_of(job: &Job) -> Result<Trace, Refusal> {
     decoded(job.events, job.records).map(Trace::of)
 }
 
-fn named(trace: &Trace, places: &[Places], second: usize) -> Race {
+/// 15 for k, then 14 for the lengths of the work buffers: labels, links, places.
+pub fn check_lent(trace: &Trace, k: u64, lengths: [usize; 3]) -> Result<(), Refusal> {
+    if k > trace.events.len() as u64 {
+        return refused(15);
+    }
+    if lengths.into_iter().zip([LABELS, LINKS, PLACES]).any(|(length, least)| length < least) {
+        return refused(14);
+    }
+    Ok(())
+}
+
+/// The race of the record that event `second` accesses, whose places show the state before that event.
+pub fn named(trace: &Trace, places: &[Places], second: usize) -> Race {
     let record = trace.events[second].record().unwrap_or_default();
     let first = first(trace, &places[usize::from(record)], second);
     let writes = [first, second].map(|at| matches!(trace.events[at], Event::Write(_)));
     Race { first: first as u64, second: second as u64, record: u64::from(record), writes }
+}
+
+/// Both orders after some events.
+pub struct Orders {
+    english: Order,
+    hebrew: Order,
+}
+
+impl Orders {
+    /// The orders of the strands begun by position `until`; 17 if there is no room for them.
+    pub fn by(trace: &Trace, until: usize) -> Result<Orders, Refusal> {
+        let strands = trace.strands_by(until);
+        Ok(Orders { english: english(strands)?, hebrew: hebrew(trace, strands)? })
+    }
+
+    pub fn store(&self, labels: &mut [u64], links: &mut [u16]) {
+        store_order(&self.english, &mut labels[..HALF_OF_LABELS], &mut links[..HALF_OF_LINKS]);
+        store_order(&self.hebrew, &mut labels[HALF_OF_LABELS..LABELS], &mut links[HALF_OF_LINKS..LINKS]);
+    }
+
+    /// The strands begun and both label counts.
+    pub fn counts(&self) -> [u64; 3] {
+        [self.english.strands.len() as u64, self.english.count, self.hebrew.count]
+    }
 }
 
 /// Labels and links of an order's strands, into that order's half of each buffer; no other entry.
@@ -114,7 +144,7 @@ fn store_order(order: &Order, labels: &mut [u64], links: &mut [u16]) {
 }
 
 /// The places of the records below the record count; no other entry.
-fn store_places(trace: &Trace, places: &[Places], out: &mut [u32]) {
+pub fn store_places(trace: &Trace, places: &[Places], out: &mut [u32]) {
     let event = |place: Option<usize>| place.map_or(NO_PLACE, |at| at as u32);
     let strand = |place: Option<usize>| place.map_or(NO_PLACE, |at| trace.strand(at) as u32);
     for (record, place) in places.iter().enumerate() {

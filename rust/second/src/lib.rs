@@ -6,8 +6,10 @@ mod judge;
 mod line;
 mod orders;
 mod race;
+mod records;
 mod trace;
 
 pub use file::{read, write, Job, Refusal};
 pub use judge::{judge, question, Judged, Race, Relation, LABELS, LINKS, PLACES};
-pub use line::{line, LONGEST_INPUT};
+pub use line::{line, lines, print};
+pub use records::{judge_records, JudgedRecords};
