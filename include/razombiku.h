@@ -1,7 +1,7 @@
 /*
  * Razombiku: judging the trace of one fork-join job, run depth first on one worker.
  *
- * Four calls over job files. Link target/staticlib/libexports.a, which `rt staticlib exports` makes.
+ * Five calls over job files. Link target/staticlib/libexports.a, which `rt staticlib exports` makes.
  *
  * - A call takes any bytes and any numbers: it answers, or it refuses by a number (below).
  * - Each pointer and length is one block: the pointer, which must not be null, and how many elements (not bytes) may be used from it.
@@ -9,7 +9,8 @@
  * - `answer` points to as many numbers as the parameter says; each call stores all of them.
  * - The caller owns every block. Nothing is kept after a call, nothing is allocated, and there is no state between calls, so
  *   calls with different blocks may run at the same time.
- * - Blocks that a call writes (out, labels, links, places, answer) must not overlap each other or any other block of that call.
+ * - Blocks that a call writes (out, labels, links, places, records, firsts, seconds, answer) must not overlap each other or any other
+ *   block of that call.
  * - Pointers must be aligned for their type. A pointer or length that is not valid is not noticed: what follows is undefined.
  */
 #ifndef RAZOMBIKU_H
@@ -22,10 +23,13 @@
 extern "C" {
 #endif
 
-/* Lengths of the work buffers of rz_judge, in elements. Longer is fine: entries past these keep what they had. */
+/* Lengths of the work buffers of rz_judge and rz_judge_records, in elements. Longer is fine: entries past these keep what they had. */
 #define RZ_LABELS 8192
 #define RZ_LINKS 16384
 #define RZ_PLACES 16384
+
+/* The most records that a file has: lists of this length are long enough for every file. */
+#define RZ_RECORDS 4096
 
 /* In links: no strand. In places: no access, for an event and its strand alike. */
 #define RZ_NO_LINK 65535u
@@ -52,7 +56,7 @@ enum rz_refusal {
     RZ_TASK_OPEN = 13,      /* a task other than the root open after the last event */
     RZ_WORK_SHORT = 14,     /* a work buffer shorter than above */
     RZ_EVENT_NUMBER = 15,   /* k over the event count; in the question, an event number not below it */
-    RZ_OUT_SHORT = 16,      /* output buffer shorter than the file to be written */
+    RZ_OUT_SHORT = 16,      /* output buffer shorter than the file to be written, or a list shorter than the record count */
     RZ_NO_ROOM = 17,        /* no label room even after respacing */
     RZ_NO_ACCESS = 18       /* question about an event that is no access */
 };
@@ -107,6 +111,31 @@ void rz_question(const uint8_t *file, size_t file_len, uint64_t i, uint64_t j, u
  */
 void rz_judge(const uint8_t *file, size_t file_len, uint64_t k, uint64_t *labels, size_t labels_len, uint16_t *links,
               size_t links_len, uint32_t *places, size_t places_len, uint64_t *answer /* [9] */);
+
+/*
+ * Judges the first k events of a file, all of them, past every race, and lists the raced records in record order. The race of a record is
+ * named by the rule of rz_judge taken within that record; rz_judge gives that one of them whose second event is the smallest.
+ *   answer[0]  refusal: 0, 1 to 13, 14, 15, 16, or 17
+ *   answer[1]  the refusal's event
+ *   answer[2]  records raced
+ *   answer[3]  strands begun
+ *   answer[4]  labels changed in the English order
+ *   answer[5]  labels changed in the Hebrew order
+ *
+ * The lists take the raced records from entry 0, rising; every entry at or past answer[2] keeps what it had:
+ *   records  the record
+ *   firsts   the first access's event number
+ *   seconds  the second access's event number
+ * Refusals come in this order: those of the file, 15, 14, 17, then 16 if any of the three lists is shorter than the record count, also if
+ * nothing is raced and k is 0. A refusal stores nothing in any of the six blocks.
+ *
+ * The work buffers' former contents don't matter; their entries are those of rz_judge. Labels and links show the state after k events.
+ * The places of a raced record freeze at its race: they show the state before its racing event; those of the others show the state after
+ * k events. Entries of strands not begun and of records at or over the record count keep what they had.
+ */
+void rz_judge_records(const uint8_t *file, size_t file_len, uint64_t k, uint64_t *labels, size_t labels_len, uint16_t *links,
+                      size_t links_len, uint32_t *places, size_t places_len, uint32_t *records, size_t records_len,
+                      uint32_t *firsts, size_t firsts_len, uint32_t *seconds, size_t seconds_len, uint64_t *answer /* [6] */);
 
 #ifdef __cplusplus
 }
