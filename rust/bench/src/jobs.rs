@@ -1,7 +1,7 @@
 //! The jobs that are timed. None of them races: judging would stop early, and little would be timed.
 
 use crate::check::check;
-use compare::jobs::{any_access, events, Draft, Shape};
+use compare::jobs::{any_access, events, Draft, Racing, Shape};
 use compare::random::Random;
 use compare::script::{END, SPAWN, SYNC};
 use std::iter::repeat_with;
@@ -18,7 +18,7 @@ const DEEP: Shape = Shape {
     syncs: 1,
     accesses: 15,
     writes: 40,
-    race_free: true,
+    racing: Racing::None,
 };
 
 /// At most two tasks open.

@@ -10,7 +10,7 @@ use second::{Judged, Refusal, LABELS, LINKS, PLACES};
 type Check = fn(&[u8]) -> Result<Accepted, Refusal>;
 type Judge = fn(&[u8], u64, &mut [u64], &mut [u16], &mut [u32]) -> Result<Judged, Refusal>;
 
-/// A Rust program, with the second program's writing and question.
+/// A Rust program, with the second program's writing, question and judging of every record.
 pub struct Program {
     check: Check,
     judge: Judge,
@@ -38,6 +38,18 @@ impl Calls for Program {
 
     fn judge(&self, file: &[u8], k: u64, labels: &mut [u64], links: &mut [u16], places: &mut [u32]) -> [u64; 9] {
         (self.judge)(file, k, labels, links, places).map_or_else(refused, judged)
+    }
+
+    fn judge_records(
+        &self,
+        file: &[u8],
+        k: u64,
+        labels: &mut [u64],
+        links: &mut [u16],
+        places: &mut [u32],
+        lists: [&mut [u32]; 3],
+    ) -> [u64; 6] {
+        Second.judge_records(file, k, labels, links, places, lists)
     }
 }
 

@@ -1,6 +1,6 @@
-//! The four calls of the C interface as a trait, and the second program behind it.
+//! The calls of the C interface as a trait, and the second program behind it.
 
-use second::{Judged, Refusal};
+use second::{Judged, JudgedRecords, Refusal};
 
 /// The calls, with answers as arrays of numbers, the refusal first.
 pub trait Calls {
@@ -12,6 +12,16 @@ pub trait Calls {
     fn question(&self, file: &[u8], i: u64, j: u64) -> [u64; 3];
     /// Refusal, event, raced, first, second, record, strands, English count, Hebrew count.
     fn judge(&self, file: &[u8], k: u64, labels: &mut [u64], links: &mut [u16], places: &mut [u32]) -> [u64; 9];
+    /// Refusal, event, records raced, strands, English count, Hebrew count. The lists are record, first, second.
+    fn judge_records(
+        &self,
+        file: &[u8],
+        k: u64,
+        labels: &mut [u64],
+        links: &mut [u16],
+        places: &mut [u32],
+        lists: [&mut [u32]; 3],
+    ) -> [u64; 6];
 }
 
 /// The second program.
@@ -35,6 +45,22 @@ impl Calls for Second {
 
     fn judge(&self, file: &[u8], k: u64, labels: &mut [u64], links: &mut [u16], places: &mut [u32]) -> [u64; 9] {
         second::judge(file, k, labels, links, places).map_or_else(refused, judged)
+    }
+
+    fn judge_records(
+        &self,
+        file: &[u8],
+        k: u64,
+        labels: &mut [u64],
+        links: &mut [u16],
+        places: &mut [u32],
+        lists: [&mut [u32]; 3],
+    ) -> [u64; 6] {
+        let numbers = |judged: JudgedRecords| {
+            let JudgedRecords { races, strands, english, hebrew } = judged;
+            [0, 0, races.len() as u64, strands, english, hebrew]
+        };
+        second::judge_records(file, k, labels, links, places, lists).map_or_else(refused, numbers)
     }
 }
 

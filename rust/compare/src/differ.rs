@@ -1,11 +1,11 @@
 //! One file through all the calls of two sides: the answers, and every entry of every lent buffer with canaries in it before.
 
+use crate::blocks::{Block, Buffers, Lists};
 use crate::calls::Calls;
 use crate::damage::wound;
 use crate::jobs::Draft;
 use crate::random::Random;
 use crate::tally::Tally;
-use second::{LABELS, LINKS, PLACES};
 
 /// Files up to so many events are judged for every k and asked about every pair.
 const FEW_EVENTS: u64 = 12;
@@ -15,14 +15,6 @@ pub struct Sides<'a> {
     pub one: &'a dyn Calls,
     pub other: &'a dyn Calls,
     pub tally: Tally,
-}
-
-/// The work buffers of one side.
-#[derive(Clone)]
-struct Buffers {
-    labels: Vec<u64>,
-    links: Vec<u16>,
-    places: Vec<u32>,
 }
 
 impl Sides<'_> {
@@ -36,42 +28,88 @@ impl Sides<'_> {
             [0, _, name, start, length, records] => {
                 let (start, end) = (start as usize, (start + length) as usize);
                 let draft = Draft::new(file[..name as usize].to_vec(), records as u32, fours(&file[start..end]));
-                self.judging(random, file, &canaries, length / 4)
+                self.judging(random, file, &canaries, length / 4, records as usize)
                     .or_else(|| self.asking(random, file, length / 4))
                     .or_else(|| self.writing_again(random, file, &draft))
                     .or_else(|| self.writing_damaged(random, draft))
             }
-            _ => self.judging(random, file, &canaries, 0).or_else(|| self.asking(random, file, 0)),
+            _ => self.judging(random, file, &canaries, 0, 0).or_else(|| self.asking(random, file, 0)),
         })
     }
 
-    /// Several k, over buffers long enough and not.
-    fn judging(&mut self, random: &mut Random, file: &[u8], canaries: &Buffers, count: u64) -> Option<String> {
+    /// Several k, over buffers long enough and not; lists long enough for each of them, and then each list in turn too short for one.
+    fn judging(
+        &mut self,
+        random: &mut Random,
+        file: &[u8],
+        canaries: &Buffers,
+        count: u64,
+        records: usize,
+    ) -> Option<String> {
         let mut some = vec![0, count, count + 1, random.number()];
         if count <= FEW_EVENTS {
             some.extend(1..count);
         } else {
             some.extend((0..3).map(|_| random.number() % count));
         }
-        some.into_iter().find_map(|k| {
-            let mut buffers = canaries.clone();
-            if random.percent(10) {
-                buffers.change_a_length(random);
-            }
-            self.judge(file, k, buffers)
+        let long_enough = some.iter().find_map(|&k| {
+            let buffers = canaries.changed_at_times(random);
+            let lists = Lists::enough(random, records);
+            self.judge_both(file, k, &buffers, lists).err()
+        });
+        long_enough.or_else(|| {
+            (0..3).find_map(|list| {
+                let buffers = canaries.changed_at_times(random);
+                let lists = Lists::short(random, records, list);
+                self.judge_records(file, random.pick(&some), &buffers, lists).err()
+            })
         })
     }
 
-    fn judge(&mut self, file: &[u8], k: u64, buffers: Buffers) -> Option<String> {
-        let (mut mine, mut others) = (buffers.clone(), buffers);
-        let one = self.one.judge(file, k, &mut mine.labels, &mut mine.links, &mut mine.places);
-        let other = self.other.judge(file, k, &mut others.labels, &mut others.links, &mut others.places);
+    /// Both calls over the same k events, with lists that are long enough: then the other side's two answers belong together.
+    fn judge_both(&mut self, file: &[u8], k: u64, buffers: &Buffers, lists: Lists) -> Result<(), String> {
+        let race = self.judge(file, k, buffers)?;
+        let (answer, lists) = self.judge_records(file, k, buffers, lists)?;
+        let pairs: Vec<[u64; 3]> = lists.raced(answer[2]).collect();
+        if answer[..2] == race[..2] && race[2..6] == smallest_second(&pairs) {
+            return Ok(());
+        }
+        Err(format!("judging {k} events: {race:?}, but every record's race: {answer:?} with {pairs:?}"))
+    }
+
+    /// The other side's answer to judging, if the first one's is the same.
+    fn judge(&mut self, file: &[u8], k: u64, buffers: &Buffers) -> Result<[u64; 9], String> {
+        let (mut mine, mut others) = (buffers.clone(), buffers.clone());
+        let judged = |side: &dyn Calls, lent: &mut Buffers| {
+            side.judge(file, k, lent.labels.lent(), lent.links.lent(), lent.places.lent())
+        };
+        let (one, other) = (judged(self.one, &mut mine), judged(self.other, &mut others));
         self.tally.judged(file, &one);
-        let call = format!("judging {k} events");
-        answers(&call, one, other)
-            .or_else(|| entries(&call, "labels", &mine.labels, &others.labels))
-            .or_else(|| entries(&call, "links", &mine.links, &others.links))
-            .or_else(|| entries(&call, "places", &mine.places, &others.places))
+        let difference = answers("the answer", one, other).or_else(|| mine.difference(&others));
+        difference.map_or(Ok(other), |difference| Err(format!("judging {k} events, {difference}")))
+    }
+
+    /// The other side's answer to judging every record, and the lists, if the first one's are the same.
+    fn judge_records(
+        &mut self,
+        file: &[u8],
+        k: u64,
+        buffers: &Buffers,
+        lists: Lists,
+    ) -> Result<([u64; 6], Lists), String> {
+        let (mut mine, mut others) = ((buffers.clone(), lists.clone()), (buffers.clone(), lists));
+        let judged = |side: &dyn Calls, (lent, lists): &mut (Buffers, Lists)| {
+            side.judge_records(file, k, lent.labels.lent(), lent.links.lent(), lent.places.lent(), lists.lent())
+        };
+        let (one, other) = (judged(self.one, &mut mine), judged(self.other, &mut others));
+        self.tally.judged_records(&one, &mine.1);
+        let difference = answers("the answer", one, other)
+            .or_else(|| mine.0.difference(&others.0))
+            .or_else(|| mine.1.difference(&others.1));
+        match difference {
+            None => Ok((other, others.1)),
+            Some(difference) => Err(format!("judging every record over {k} events, {difference}")),
+        }
     }
 
     /// All pairs of a small file, some of another; event numbers past the end too.
@@ -113,7 +151,7 @@ impl Sides<'_> {
         }
         let mut again = vec![0; file.len()];
         self.other.write(&draft.name, u64::from(draft.records), &draft.events.concat(), &mut again);
-        entries("writing what was read", "file and output", file, &again)
+        (again != file).then(|| "writing what was read makes another file".to_string())
     }
 
     /// Parts that make no accepted file, for the most part.
@@ -140,47 +178,17 @@ impl Sides<'_> {
         events: &[u8],
         length: usize,
     ) -> Option<String> {
-        let mut mine = vec![random.number() as u8; length];
+        let canary = random.number() as u8;
+        let mut mine = Block::of(length, || canary);
         let mut others = mine.clone();
-        let one = self.one.write(name, records, events, &mut mine);
-        let other = self.other.write(name, records, events, &mut others);
+        let one = self.one.write(name, records, events, mine.lent());
+        let other = self.other.write(name, records, events, others.lent());
         self.tally.wrote(&one);
-        if one == other && mine == others {
-            return None;
-        }
+        let difference = answers("the answer", one, other).or_else(|| mine.difference(&others, "output"))?;
         let text = vjt::show(&Draft::new(name.to_vec(), records as u32, fours(events)).file());
         let bytes = events.len();
-        let call = format!("writing {bytes} event bytes, records {records}, to {length} bytes: {}", text.trim_end());
-        answers(&call, one, other).or_else(|| entries(&call, "output", &mine, &others))
-    }
-}
-
-impl Buffers {
-    /// Buffers of the rules' lengths, with contents that show where something is stored.
-    fn canaries(random: &mut Random) -> Buffers {
-        let kind = random.below(4);
-        let mut content = || match kind {
-            0 => 0,
-            1 => u64::MAX,
-            _ => random.number(),
-        };
-        Buffers {
-            labels: (0..LABELS).map(|_| content()).collect(),
-            links: (0..LINKS).map(|_| content() as u16).collect(),
-            places: (0..PLACES).map(|_| content() as u32).collect(),
-        }
-    }
-
-    /// Makes one of the buffers too short or longer than need be.
-    fn change_a_length(&mut self, random: &mut Random) {
-        let (short, long) = (random.pick(&[0, 1, 4096]), random.within(1, 9));
-        let change = |length: usize, cut: bool| if cut { length.saturating_sub(short.max(1)) } else { length + long };
-        let cut = random.percent(50);
-        match random.below(3) {
-            0 => self.labels.resize(change(LABELS, cut), 77),
-            1 => self.links.resize(change(LINKS, cut), 77),
-            _ => self.places.resize(change(PLACES, cut), 77),
-        }
+        let text = text.trim_end();
+        Some(format!("writing {bytes} event bytes, records {records}, to {length} bytes: {text}, {difference}"))
     }
 }
 
@@ -198,8 +206,9 @@ fn answers<const N: usize>(call: &str, one: [u64; N], other: [u64; N]) -> Option
     (one != other).then(|| format!("{call}: {one:?} and {other:?}"))
 }
 
-/// The first entry in which two buffers of one length differ.
-fn entries<T: PartialEq + std::fmt::Display>(call: &str, buffer: &str, one: &[T], other: &[T]) -> Option<String> {
-    let at = one.iter().zip(other).position(|(one, other)| one != other)?;
-    Some(format!("{call}, {buffer}: entry {at} is {} and {}", one[at], other[at]))
+/// "The one-race call stays and gives the pair with the smallest second event": raced, first, second and record of that one of the
+/// pairs, which are record, first and second; or zeros if there is none.
+fn smallest_second(pairs: &[[u64; 3]]) -> [u64; 4] {
+    let smallest = pairs.iter().min_by_key(|[_, _, second]| second);
+    smallest.map_or([0; 4], |&[record, first, second]| [1, first, second, record])
 }

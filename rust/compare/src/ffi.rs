@@ -27,6 +27,24 @@ extern "C" {
         places_len: usize,
         answer: *mut [u64; 9],
     );
+    fn rz_judge_records(
+        file: *const u8,
+        file_len: usize,
+        k: u64,
+        labels: *mut u64,
+        labels_len: usize,
+        links: *mut u16,
+        links_len: usize,
+        places: *mut u32,
+        places_len: usize,
+        records: *mut u32,
+        records_len: usize,
+        firsts: *mut u32,
+        firsts_len: usize,
+        seconds: *mut u32,
+        seconds_len: usize,
+        answer: *mut [u64; 6],
+    );
 }
 
 /// The library. Its answers are arrays of canaries before a call: a number that it does not store shows.
@@ -75,6 +93,41 @@ impl Calls for Library {
                 links.len(),
                 places.as_mut_ptr(),
                 places.len(),
+                &mut answer,
+            )
+        };
+        answer
+    }
+
+    fn judge_records(
+        &self,
+        file: &[u8],
+        k: u64,
+        labels: &mut [u64],
+        links: &mut [u16],
+        places: &mut [u32],
+        [records, firsts, seconds]: [&mut [u32]; 3],
+    ) -> [u64; 6] {
+        let mut answer = [CANARY; 6];
+        // SAFETY: `file` is a slice that is read; the three buffers and the three lists are slices that are written, each with its own
+        // length, in elements; `answer` is an array of the 6 numbers that the call stores.
+        unsafe {
+            rz_judge_records(
+                file.as_ptr(),
+                file.len(),
+                k,
+                labels.as_mut_ptr(),
+                labels.len(),
+                links.as_mut_ptr(),
+                links.len(),
+                places.as_mut_ptr(),
+                places.len(),
+                records.as_mut_ptr(),
+                records.len(),
+                firsts.as_mut_ptr(),
+                firsts.len(),
+                seconds.as_mut_ptr(),
+                seconds.len(),
                 &mut answer,
             )
         };

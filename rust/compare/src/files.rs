@@ -5,7 +5,7 @@ use crate::jobs::{self, Draft};
 use crate::random::Random;
 use crate::script::{read, write, END, SPAWN, SYNC};
 
-const SMALL_JOBS: [&str; 11] = [
+const SMALL_JOBS: [&str; 16] = [
     "",
     "W0 R0",
     "S W0 E W0",
@@ -17,6 +17,12 @@ const SMALL_JOBS: [&str; 11] = [
     "S S W0 E J E W0",
     "S W0 E S J W0 E",
     "name \"L4\" records 2: W0 S R0 W1 E R0 W1 J",
+    // several records race, a clean one between; and raced ones are accessed further
+    "S W1 W0 E W1 W0",
+    "S W2 R1 W0 E R1 W2 R0",
+    "W0 S R0 W1 E R0 W0 W1",
+    "S W0 R1 E R0 J W0 R0 R1 S E",
+    "S R0 E W0 S R0 E J R0 W0 W1 S W1 E R1",
 ];
 
 /// A generated file of a seed, by its number: accepted, or damaged for the most part.
@@ -61,6 +67,18 @@ fn nested(depth: usize) -> Vec<[u8; 4]> {
     [[SPAWN].repeat(depth), [END].repeat(depth)].concat()
 }
 
+/// A child writes some records, and then the root does: each of them races.
+fn raced(records: impl Iterator<Item = u16> + Clone, again: impl Iterator<Item = u16>) -> Draft {
+    let written = [vec![SPAWN], records.map(write).collect(), vec![END], again.map(write).collect()].concat();
+    job(4096, written)
+}
+
+/// 1,000,000 events, of which the last two race: one with a write, one with a read.
+fn raced_at_the_end() -> Draft {
+    let front = vec![SPAWN, write(1), read(0), END];
+    job(3, [front, [read(2)].repeat(999_994), vec![read(1), write(0)]].concat())
+}
+
 fn at_the_limits() -> Vec<(&'static str, Draft)> {
     let all_but_one = [&[SPAWN, END, SYNC][..], &pairs(2046)].concat();
     let then = |event: [u8; 4]| [&all_but_one[..], &[event]].concat();
@@ -75,6 +93,10 @@ fn at_the_limits() -> Vec<(&'static str, Draft)> {
         ("a 4,097th strand by a sync", job(1, then(SYNC))),
         ("4,096 strands by joins", job(1, [SPAWN, END, SYNC].repeat(1365))),
         ("4,096 records", job(4096, vec![write(4095), read(4095), SPAWN, read(4095), END, write(4095)])),
+        ("4,096 records, all raced", raced(0..4096, 0..4096)),
+        ("4,096 records, all raced, the last one first", raced(0..4096, (0..4096).rev())),
+        ("4,096 records, every second raced", raced(0..4096, (0..2048).map(|half| 4095 - 2 * half))),
+        ("4,096 records, the first and the last raced", raced([4095, 0].into_iter(), [4095, 0].into_iter())),
         ("4,097 records", job(4097, vec![read(0)])),
         ("no record", job(0, vec![])),
         ("a record at the record count", job(4096, vec![read(0), read(4096)])),
@@ -84,6 +106,7 @@ fn at_the_limits() -> Vec<(&'static str, Draft)> {
             "1,000,000 events",
             job(1, [vec![SPAWN, write(0), END], [SYNC, read(0)].repeat(499_998), vec![SYNC]].concat()),
         ),
+        ("1,000,000 events, the last two race", raced_at_the_end()),
         ("1,000,001 events", job(1, [read(0)].repeat(1_000_001))),
         ("65,536 bytes", job(1, [read(0)].repeat(16_380))),
         ("65,537 bytes", Draft::new(vec![b'n'], 1, [read(0)].repeat(16_380))),

@@ -44,15 +44,23 @@ pub struct Shape {
     pub accesses: usize,
     /// Of 100 accesses.
     pub writes: usize,
-    /// No two accesses race.
-    pub race_free: bool,
+    pub racing: Racing,
+}
+
+/// Which records may race.
+#[derive(Clone, Copy, Debug, PartialEq, Eq)]
+pub enum Racing {
+    None,
+    /// Those with an even number; the others are accessed too, and stay clean.
+    EverySecond,
+    All,
 }
 
 /// A job by chance.
 pub fn job(random: &mut Random) -> Draft {
     let shape = shape(random);
     let mut events = events(random, &shape);
-    if shape.race_free && random.percent(50) {
+    if shape.racing == Racing::None && random.percent(50) {
         change_one_access(random, &mut events, shape.records);
     }
     Draft::new(name(random), shape.records as u32, events)
@@ -69,6 +77,17 @@ pub fn name(random: &mut Random) -> Vec<u8> {
 }
 
 fn shape(random: &mut Random) -> Shape {
+    let shape = any_shape(random);
+    if shape.racing != Racing::EverySecond {
+        return shape;
+    }
+    // Few records for the events, so that many of them race.
+    let events = shape.events + 20;
+    let records = random.within(3, (events / 6).clamp(5, 4096));
+    Shape { events, records, accesses: random.pick(&[8, 8, 30]), writes: random.pick(&[20, 50, 100]), ..shape }
+}
+
+fn any_shape(random: &mut Random) -> Shape {
     let events = match random.below(200) {
         0 => random.within(8_000, 16_000),
         1..=5 => random.within(500, 4_000),
@@ -86,13 +105,18 @@ fn shape(random: &mut Random) -> Shape {
         random.pick(&[(64, 8, 4, 1), (64, 6, 6, 2), (2, 5, 5, 1), (2, 5, 5, 0), (8, 3, 3, 2)]);
     let accesses = random.pick(&[0, 2, 8, 8, 8, 30]);
     let writes = random.pick(&[0, 1, 5, 20, 50, 100]);
-    Shape { events, open, records, spawns, ends, syncs, accesses, writes, race_free: random.percent(30) }
+    let racing = match random.below(10) {
+        0..=2 => Racing::None,
+        3..=6 => Racing::EverySecond,
+        _ => Racing::All,
+    };
+    Shape { events, open, records, spawns, ends, syncs, accesses, writes, racing }
 }
 
 /// The events of a job of some shape.
 pub fn events(random: &mut Random, shape: &Shape) -> Vec<[u8; 4]> {
     let mut script = Script::default();
-    let mut owners = Owners::root();
+    let mut owners = Owners::root(shape);
     let choices = shape.spawns + shape.ends + shape.syncs + shape.accesses;
     while script.events.len() + script.open() <= shape.events {
         let choice = random.below(choices);
@@ -102,10 +126,8 @@ pub fn events(random: &mut Random, shape: &Shape) -> Vec<[u8; 4]> {
             end(&mut script, &mut owners);
         } else if choice < choices - shape.accesses {
             sync(&mut script, &mut owners);
-        } else if shape.race_free {
-            script.access(owners.access(random, shape, script.waits()));
         } else {
-            script.access(any_access(random, shape));
+            script.access(access(random, &mut owners, shape, script.waits()));
         }
         if !script.may_spawn() && script.open() == 1 && shape.accesses == 0 {
             break;
@@ -138,9 +160,21 @@ fn sync(script: &mut Script, owners: &mut Owners) {
     }
 }
 
-/// An access of any record, which may race.
+/// An access of a job of some shape: of a record that may race, or of one that must not.
+fn access(random: &mut Random, owners: &mut Owners, shape: &Shape, waits: bool) -> [u8; 4] {
+    match shape.racing {
+        Racing::None => owners.access(random, shape, waits),
+        Racing::EverySecond if random.percent(50) => owners.access(random, shape, waits),
+        Racing::EverySecond | Racing::All => any_access(random, shape),
+    }
+}
+
+/// An access of any record, which may race; where only every second record may, of one of those.
 pub fn any_access(random: &mut Random, shape: &Shape) -> [u8; 4] {
-    let record = random.below(shape.records) as u16;
+    let record = match shape.racing {
+        Racing::EverySecond => 2 * random.below(shape.records.div_ceil(2)),
+        Racing::None | Racing::All => random.below(shape.records),
+    } as u16;
     if random.percent(shape.writes) {
         write(record)
     } else {
@@ -163,14 +197,16 @@ fn change_one_access(random: &mut Random, events: &mut [[u8; 4]], records: usize
 struct Owners {
     owned: Vec<Vec<u16>>,
     waiting: Vec<Vec<u16>>,
-    /// The first record that nobody has touched.
+    /// The first record that nobody has touched, and how far it is from one record to the next.
     fresh: u16,
+    step: u16,
 }
 
 impl Owners {
-    /// The root owns record 0.
-    fn root() -> Owners {
-        Owners { owned: vec![vec![0]], waiting: vec![Vec::new()], fresh: 1 }
+    /// The root owns the first record that must not race: record 0, or record 1 where every second one may race.
+    fn root(shape: &Shape) -> Owners {
+        let (first, step) = if shape.racing == Racing::EverySecond { (1, 2) } else { (0, 1) };
+        Owners { owned: vec![vec![first]], waiting: vec![Vec::new()], fresh: first + step, step }
     }
 
     fn spawn(&mut self) {
@@ -198,8 +234,8 @@ impl Owners {
             }
             if usize::from(self.fresh) < shape.records {
                 self.owned[current].push(self.fresh);
-                self.fresh += 1;
-                return write(self.fresh - 1);
+                self.fresh += self.step;
+                return write(self.fresh - self.step);
             }
         }
         let task = random.below(current + 1);
@@ -224,9 +260,30 @@ mod tests {
     fn race_free_jobs_do_not_race() {
         for file in 0..200 {
             let mut random = Random::of_file(6, file);
-            let shape = Shape { race_free: true, ..shape(&mut random) };
+            let shape = Shape { racing: Racing::None, ..shape(&mut random) };
             let draft = Draft::new(Vec::new(), shape.records as u32, events(&mut random, &shape));
             assert!(second::line(&draft.file()).starts_with(b"clean"), "file {file}");
         }
+    }
+
+    /// The records that race in a job file, by the lines that are printed.
+    fn raced(file: &[u8]) -> Vec<usize> {
+        let lines = String::from_utf8_lossy(&second::lines(file)).into_owned();
+        let record = |line: &str| line.strip_prefix("race record ")?.split(' ').next()?.parse().ok();
+        lines.lines().filter_map(record).collect()
+    }
+
+    #[test]
+    fn every_second_record_may_race_and_the_others_do_not() {
+        let mut several = 0;
+        for file in 0..200 {
+            let mut random = Random::of_file(7, file);
+            let shape =
+                Shape { events: 60, records: 9, accesses: 8, racing: Racing::EverySecond, ..shape(&mut random) };
+            let raced = raced(&Draft::new(Vec::new(), 9, events(&mut random, &shape)).file());
+            assert!(raced.iter().all(|record| record % 2 == 0), "file {file}: {raced:?}");
+            several += usize::from(raced.len() > 1);
+        }
+        assert!(several > 50, "{several} of 200 files");
     }
 }

@@ -1,6 +1,7 @@
 //! Runs two sides on generated and damaged job files and finds where they differ: the library behind the C interface and the
-//! second program, or the program `judge` and the second program's line.
+//! second program, or the programs `judge` and `records` and the second program's lines.
 
+pub mod blocks;
 pub mod calls;
 pub mod damage;
 pub mod differ;

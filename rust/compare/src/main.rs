@@ -4,7 +4,7 @@ use arguments::{Arguments, Wrong};
 use compare::calls::{Calls, Second};
 use compare::differ::Sides;
 use compare::files::{generated, limits};
-use compare::program;
+use compare::program::{self, Lines};
 use compare::random::Random;
 use compare::shrink::shrink;
 use compare::tally::Tally;
@@ -12,18 +12,20 @@ use std::path::PathBuf;
 use std::process::ExitCode;
 use std::time::{Duration, Instant};
 
-const USAGE: &str = "usage: compare [--seed N] [--first N] [--count N] [--judge PATH]
-  --seed N      which files are made (1)
-  --first N     the number of the first generated file (0)
-  --count N     how many files are generated, after those at the limits (2000)
-  --judge PATH  also runs this program on each file and compares its line
-Built without the feature `rattle`, only the program is compared, and --judge must be given.";
+const USAGE: &str = "usage: compare [--seed N] [--first N] [--count N] [--judge PATH] [--records PATH]
+  --seed N        which files are made (1)
+  --first N       the number of the first generated file (0)
+  --count N       how many files are generated, after those at the limits (2000)
+  --judge PATH    also runs this program on each file and compares its line
+  --records PATH  also runs this program on each file and compares its lines
+Built without the feature `rattle`, only programs are compared, and --judge or --records must be given.";
 
 struct Options {
     seed: u64,
     first: u64,
     count: u64,
     judge: Option<PathBuf>,
+    records: Option<PathBuf>,
 }
 
 fn main() -> ExitCode {
@@ -42,17 +44,18 @@ fn main() -> ExitCode {
 }
 
 fn options(arguments: &mut Arguments) -> Result<Options, Wrong> {
-    let mut options = Options { seed: 1, first: 0, count: 2000, judge: None };
+    let mut options = Options { seed: 1, first: 0, count: 2000, judge: None, records: None };
     while let Some(option) = arguments.next() {
         match option.as_str() {
             "--seed" => options.seed = arguments.number(&option)?,
             "--first" => options.first = arguments.number(&option)?,
             "--count" => options.count = arguments.number(&option)?,
             "--judge" => options.judge = Some(PathBuf::from(arguments.value(&option)?)),
+            "--records" => options.records = Some(PathBuf::from(arguments.value(&option)?)),
             _ => return Err(Wrong::unknown(&option)),
         }
     }
-    if library().is_none() && options.judge.is_none() {
+    if library().is_none() && options.judge.is_none() && options.records.is_none() {
         return Err(Wrong::new("nothing to compare with"));
     }
     Ok(options)
@@ -120,9 +123,14 @@ impl Compared<'_> {
         } else {
             self.tally.files += 1;
         }
-        if let (None, Some(path)) = (&found, &self.options.judge) {
-            self.tally.programs += 1;
-            found = program::difference(path, file).map_err(|wrong| format!("{}: {wrong}", path.display()))?;
+        let programs: [(&Option<PathBuf>, Lines); 2] =
+            [(&self.options.judge, second::line), (&self.options.records, second::lines)];
+        for (runs, (path, lines)) in self.tally.programs.iter_mut().zip(programs) {
+            if let (None, Some(path)) = (&found, path) {
+                *runs += 1;
+                let difference = program::difference(path, file, lines);
+                found = difference.map_err(|wrong| format!("{}: {wrong}", path.display()))?;
+            }
         }
         Ok(found)
     }

@@ -1,9 +1,11 @@
 //! What the files of a run were: so that a run shows what it tried.
 
+use crate::blocks::Lists;
 use std::fmt;
 
 pub const KINDS: [&str; 3] = ["WW", "WR", "RW"];
 const RELATIONS: [&str; 4] = ["same", "before", "after", "parallel"];
+const RACED: [&str; 3] = ["none", "one", "more"];
 
 #[derive(Clone, Debug, Default)]
 pub struct Tally {
@@ -14,12 +16,20 @@ pub struct Tally {
     pub clean: u64,
     /// By the kinds of both accesses.
     pub races: [u64; 3],
+    /// Calls for every record by how many of them raced: none, one, more.
+    pub raced: [u64; 3],
+    /// And those in which a record that did not race stands between two that did.
+    pub clean_between: u64,
+    pub most_raced: u64,
+    /// Refusals 16 for a list; `refusals` has those of writing too.
+    pub short_lists: u64,
     /// By the question's answer.
     pub relations: [u64; 4],
     pub written: u64,
     pub respaced: u64,
     pub most_strands: u64,
-    pub programs: u64,
+    /// Runs of `judge` and of `records`.
+    pub programs: [u64; 2],
 }
 
 impl Tally {
@@ -43,6 +53,20 @@ impl Tally {
         }
         self.respaced += u64::from(english.max(hebrew) > strands);
         self.most_strands = self.most_strands.max(strands);
+    }
+
+    /// An answer of judging every record, and the lists that it left.
+    pub fn judged_records(&mut self, answer: &[u64; 6], lists: &Lists) {
+        let &[refusal, _, raced, ..] = answer;
+        self.calls += 1;
+        self.short_lists += u64::from(refusal == 16);
+        if refusal != 0 {
+            return self.refusal(refusal);
+        }
+        self.raced[raced.min(2) as usize] += 1;
+        self.most_raced = self.most_raced.max(raced);
+        let records: Vec<u64> = lists.raced(raced).map(|[record, ..]| record).collect();
+        self.clean_between += u64::from(records.windows(2).any(|pair| pair[0] + 1 < pair[1]));
     }
 
     pub fn asked(&mut self, answer: &[u64; 3]) {
@@ -77,12 +101,15 @@ impl fmt::Display for Tally {
         };
         let numbers: Vec<String> = (1..19).map(|number| number.to_string()).collect();
         let numbers: Vec<&str> = numbers.iter().map(String::as_str).collect();
-        writeln!(f, "files {} calls {} lines of the program {}", self.files, self.calls, self.programs)?;
+        let [judge, records] = self.programs;
+        writeln!(f, "files {} calls {} runs of judge {judge} of records {records}", self.files, self.calls)?;
         if self.calls == 0 {
             return Ok(());
         }
         writeln!(f, "judged: clean {} races{}", self.clean, listed(&KINDS, &self.races))?;
         writeln!(f, "        with a respacing {} most strands {}", self.respaced, self.most_strands)?;
+        writeln!(f, "every record: raced{} most {}", listed(&RACED, &self.raced), self.most_raced)?;
+        writeln!(f, "        with a clean one between {} a list too short {}", self.clean_between, self.short_lists)?;
         writeln!(f, "asked:{}", listed(&RELATIONS, &self.relations))?;
         writeln!(f, "written: {}", self.written)?;
         writeln!(f, "refused, by number:{}", listed(&numbers, &self.refusals[1..]))

@@ -5,6 +5,7 @@ use compare::differ::Sides;
 use compare::files::{generated, limits};
 use compare::random::Random;
 use compare::tally::Tally;
+use second::{LABELS, LINKS, PLACES};
 
 const SEED: u64 = 11;
 
@@ -21,6 +22,9 @@ fn the_files_of_a_run_show_everything() {
             "file {number}"
         );
     }
+    let Tally { raced, clean_between, short_lists, most_raced, .. } = sides.tally;
+    assert!(raced.iter().chain([&clean_between, &short_lists]).all(|&count| count >= 50));
+    assert_eq!(most_raced, 4096);
     let Tally { refusals, clean, races, relations, respaced, most_strands, written, .. } = sides.tally;
     let unseen: Vec<usize> = (1..19).filter(|&number| number != 17 && refusals[number] < 3).collect();
     assert!(unseen.is_empty(), "refusals not seen three times: {unseen:?}");
@@ -78,11 +82,70 @@ impl Calls for Flawed {
         if self.has("the place of a record past the count") == 1 && places.len() > 16384 {
             places[16384] ^= 1;
         }
+        answer[4] += self.has("the one race has another second") * answer[2];
+        if answer[2] == 0 {
+            answer[2] = self.has("a race where no record has one");
+        }
         if answer[2] == 1 {
             places[answer[5] as usize] ^= self.has("the racing access stored") as u32;
         }
         answer
     }
+
+    fn judge_records(
+        &self,
+        file: &[u8],
+        k: u64,
+        labels: &mut [u64],
+        links: &mut [u16],
+        places: &mut [u32],
+        [records, firsts, seconds]: [&mut [u32]; 3],
+    ) -> [u64; 6] {
+        let k = if self.0 == "no event after the first race" { until_race(file, k) } else { k };
+        let mut answer = Second.judge_records(file, k, labels, links, places, [records, firsts, seconds]);
+        let raced = answer[2] as usize;
+        let enough = Second.read(file)[5] as usize;
+        let short = records.len().min(firsts.len()).min(seconds.len()) < enough;
+        match (self.0, answer[0]) {
+            ("16 before 14", 14) | ("16 before 15", 15) if short => answer[0] = 16,
+            ("an entry stored at refusal 16", 16) if !firsts.is_empty() => firsts[0] ^= 1,
+            ("lists for the raced records are enough", 16) => {
+                let mut lists = [records, firsts, seconds].map(|list| (list, vec![0; enough]));
+                let longer = lists.each_mut().map(|(_, longer)| longer.as_mut_slice());
+                answer = Second.judge_records(file, k, labels, links, places, longer);
+                for (list, longer) in &mut lists {
+                    let stored = list.len().min(answer[2] as usize);
+                    list[..stored].copy_from_slice(&longer[..stored]);
+                }
+            }
+            ("an entry past the count stored", 0) if raced < seconds.len() => seconds[raced] ^= 1,
+            ("the lists in the order of the races", 0) => {
+                let mut pairs: Vec<_> = (0..raced).map(|at| (seconds[at], firsts[at], records[at])).collect();
+                pairs.sort_unstable();
+                for (at, pair) in pairs.into_iter().enumerate() {
+                    (seconds[at], firsts[at], records[at]) = pair;
+                }
+            }
+            ("the first of another record", 0) if raced > 1 => firsts[0] = firsts[1],
+            ("the places of a raced record move on", 0) if raced > 0 => places[records[0] as usize] = seconds[0],
+            _ => {}
+        }
+        answer
+    }
+}
+
+/// How many of the first k events are judged up to the first race, the racing one counted.
+fn until_race(file: &[u8], k: u64) -> u64 {
+    match Second.judge(file, k, &mut [0; LABELS], &mut [0; LINKS], &mut [0; PLACES]) {
+        [0, _, 1, _, second, ..] => second + 1,
+        _ => k,
+    }
+}
+
+/// Whether some file of a run shows a difference.
+fn found(one: &dyn Calls, other: &dyn Calls) -> bool {
+    let mut sides = Sides { one, other, tally: Tally::default() };
+    (0..2000).any(|number| sides.difference(&mut Random::of_file(SEED, number), &generated(SEED, number)).is_some())
 }
 
 #[test]
@@ -98,12 +161,27 @@ fn each_flaw_is_found() {
         "a Hebrew link",
         "the place of a record past the count",
         "the racing access stored",
+        "no event after the first race",
+        "16 before 14",
+        "16 before 15",
+        "an entry stored at refusal 16",
+        "lists for the raced records are enough",
+        "an entry past the count stored",
+        "the lists in the order of the races",
+        "the first of another record",
+        "the places of a raced record move on",
     ];
     for flaw in flaws {
-        let flawed = Flawed(flaw);
-        let mut sides = Sides { one: &Second, other: &flawed, tally: Tally::default() };
-        let found = (0..2000)
-            .any(|number| sides.difference(&mut Random::of_file(SEED, number), &generated(SEED, number)).is_some());
-        assert!(found, "{flaw}");
+        assert!(found(&Second, &Flawed(flaw)), "{flaw}");
+    }
+}
+
+/// Two sides that agree are not enough: the one race must be that of the records' races with the smallest second.
+#[test]
+fn calls_that_do_not_belong_together_are_found() {
+    let flawed = Flawed("the lists in the order of the races");
+    assert!(!found(&flawed, &flawed));
+    for flaw in ["the one race has another second", "a race where no record has one"] {
+        assert!(found(&Flawed(flaw), &Flawed(flaw)), "{flaw}");
     }
 }

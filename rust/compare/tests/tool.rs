@@ -4,11 +4,12 @@ use std::process::Command;
 
 #[test]
 fn a_wrong_command_line_is_told_with_the_usage() {
-    let lines: [(&[&str], &str); 4] = [
+    let lines: [(&[&str], &str); 5] = [
         (&["--seed"], "compare: --seed needs a value\n"),
         (&["--seed", "few"], "compare: --seed few: no whole number"),
         (&["--label", "L4"], "compare: --label: no such option\n"),
         (&["--judge"], "compare: --judge needs a value\n"),
+        (&["--records"], "compare: --records needs a value\n"),
     ];
     for (arguments, complaint) in lines {
         let output = Command::new(env!("CARGO_BIN_EXE_compare")).args(arguments).output().expect("the tool starts");
