@@ -10,3 +10,4 @@ pub mod OneAnswer
 pub mod EachRecord
 pub mod AtTheEnd
 pub mod Demands
+pub mod Starred
