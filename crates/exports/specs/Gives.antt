@@ -8,7 +8,10 @@ use Rattle.writing.specs.Written.{writeOf, outAfter}
 use Rattle.taking.specs.Buffers.{Buffers}
 use Rattle.judging.specs.Answers.{judgeWith}
 use Rattle.judging.specs.Leaves.{Leaves}
-use Rattle.exports.specs.Numbers.{writeNumbers, judgeNumbers}
+use Rattle.per_record.specs.Lists.{Lists}
+use Rattle.per_record.specs.Answers.{recordsOf}
+use Rattle.per_record.specs.Leaves.{Leaves as LeavesLists}
+use Rattle.exports.specs.Numbers.{writeNumbers, judgeNumbers, recordsNumbers}
 
 -- `rz_write`: A is what `answer` holds afterwards; the output was lent as `out`, and is `left`
 pub record WriteCallGives (name : List ℕ) (records : ℕ) (events out A left : List ℕ) : Type 0 where
@@ -19,3 +22,8 @@ pub record WriteCallGives (name : List ℕ) (records : ℕ) (events out A left :
 pub record JudgeCallGives (file : List ℕ) (k : ℕ) (B₀ : Buffers) (A : List ℕ) (B : Buffers) : Type 0 where
   pub numbers : A ≡ judgeNumbers (judgeWith file k B₀)
   pub leaves : Leaves (judgeWith file k B₀) file k B₀ B
+
+-- `rz_judge_records`: the same, and the lists were lent as L₀, and are L
+pub record RecordsCallGives (file : List ℕ) (k : ℕ) (B₀ : Buffers) (L₀ : Lists) (A : List ℕ) (B : Buffers) (L : Lists) : Type 0 where
+  pub numbers : A ≡ recordsNumbers (recordsOf file k B₀ L₀)
+  pub leaves : LeavesLists (recordsOf file k B₀ L₀) file k B₀ L₀ B L

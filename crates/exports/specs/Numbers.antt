@@ -9,6 +9,8 @@ use Rattle.relation.specs.Question.{answerNumber, answerRefusal, answerEvent}
 use Rattle.relation.specs.declared.Related.{Related}
 use Rattle.judging.specs.Answers.{Numbers, numbersOf}
 use Rattle.judging.specs.declared.Answer.{Answer as Judged}
+use Rattle.per_record.specs.Answers.{numbersOf as recordsNumbersOf}
+use Rattle.per_record.specs.declared.Answer.{Answer as Listed}
 
 -- "Reading gives the name, the event part and the record count": refusal, event, the name's length, where the events start, their length
 -- in bytes, records. The name starts the file, so its length is where the events start.
@@ -30,3 +32,9 @@ inOrder n =
 
 abbrev pub judgeNumbers : Judged → List ℕ
 judgeNumbers a = inOrder (numbersOf a)
+
+-- "gives strands, label counts and the number raced": refusal, event, records raced, strands, English count, Hebrew count
+abbrev pub recordsNumbers : Listed → List ℕ
+recordsNumbers a =
+    let n = recordsNumbersOf a in
+    n .refusal ∷ n .event ∷ n .raced ∷ n .strands ∷ n .english ∷ n .hebrew ∷ []

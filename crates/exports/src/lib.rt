@@ -8,8 +8,9 @@ ghost use Rattle.jobfile.specs.Lent.{was, is};
 ghost use Rattle.jobfile.specs.File.{checkOf, eventCount};
 ghost use Rattle.relation.specs.Question.{questionOf};
 ghost use Rattle.taking.specs.Buffers.{before, after};
-ghost use Rattle.exports.specs.Numbers.{readNumbers, writeNumbers, questionNumbers, judgeNumbers};
-ghost use Rattle.exports.specs.Gives.{WriteCallGives, JudgeCallGives};
+ghost use Rattle.per_record.specs.Lists.{listsBefore, listsAfter};
+ghost use Rattle.exports.specs.Numbers.{readNumbers, writeNumbers, questionNumbers, judgeNumbers, recordsNumbers};
+ghost use Rattle.exports.specs.Gives.{WriteCallGives, JudgeCallGives, RecordsCallGives};
 use jobfile::Checked;
 use writing::Written;
 
@@ -72,10 +73,16 @@ pub extern "C" fn rz_judge_records(
     firsts: &mut [u32],
     seconds: &mut [u32],
     answer: &mut [u64; 6],
-)
-{
+) {
     *answer = records_numbers(per_record::judge(
-        file, k as usize, labels, links, places, records, firsts, seconds,
+        file,
+        k as usize,
+        labels,
+        links,
+        places,
+        records,
+        firsts,
+        seconds,
     ));
 }
 
@@ -164,8 +171,7 @@ fn judge_numbers(a: judging::Answer) -> [u64; 9]
 }
 
 // The numbers of a judgement of every record.
-fn records_numbers(a: per_record::Answer) -> [u64; 6]
-{
+fn records_numbers(a: per_record::Answer) -> [u64; 6] {
     match a {
         per_record::Answer::Judged {
             raced,

@@ -6,7 +6,7 @@ use mathlib.Core.List.{List}
 use mathlib.Core.Bool.{Bool, true, false, cond}
 use lib.Dec.{eqb, ltb}
 use native.Mathlib.Omega.{arith}
-use borrow.Author.Tests.{ltb-true, ltb-false}
+use borrow.Author.Tests.{ltb-true, ltb-false, eqb-true}
 use Rattle.trailer.specs.Table.{row, Nowhere, Table, Exact, ExactNumbers}
 use Rattle.trailer.proofs.Table.{first-row, not-row, given-front, Ends, ends-behind, exact, exact-numbers}
 use Rattle.jobfile.specs.Refusals.{refusalOf}
@@ -54,6 +54,22 @@ module _ {A : Type 0} (events strands k labels links places : ℕ) (run : A) (re
           inr (17, 0, refl, omega arith, inr (within p, inr (not-row (fit q r s), inl (first-row 17 l))))
       by false p false q false r false s false t =
           inl (refl, (within p, (not-row (fit q r s), (not-row (λ l. omega (arith, ltb-false (2 ^ 64 - 1) (spaced (strands - 1)) t)), tt))))
+
+-- The fault of the run is exact by its table.
+fault-alone : (f : ℕ) → _≡_ {A = ℕ × ℕ} (cond (eqb f 0) (0, 0) (f, 0)) (f, 0)
+fault-alone f = by (eqb f 0) refl
+  where
+    by : (b : Bool) → eqb f 0 ≡ b → _≡_ {A = ℕ × ℕ} (cond b (0, 0) (f, 0)) (f, 0)
+    by true e = let z : f ≡ 0 = eqb-true f 0 e in rw z
+    by false e = refl
+
+pub fault-exact : (events strands k labels links places : ℕ)
+    → ExactNumbers (runTable events strands k labels links places) (judgeFault events strands k labels links places) 0
+fault-exact events strands k labels links places =
+    let f = judgeFault events strands k labels links places in
+    subst (λ (a : ℕ × ℕ). ExactNumbers (runTable events strands k labels links places) (a .0) (a .1)) (fault-alone f)
+    (exact-numbers {A = ℕ × ℕ} (runTable events strands k labels links places) (0, 0) (λ n m. (n, m)) _ (λ a. a .0) (λ a. a .1) (λ n m. (refl, refl)) refl
+    (run-ends {A = ℕ × ℕ} events strands k labels links places (0, 0) (λ n m. (n, m))))
 
 -- the answer of a run is no refusal
 abbrev Answered : Answer → Type 0
