@@ -1,11 +1,13 @@
 pub mod Faults
 pub mod Stretches
 pub mod Marking
+pub mod MarksKept
 pub mod Listing
 pub mod Entering
 pub mod Pairs
 pub mod Rows
 pub mod Gives
+pub mod Going
 pub mod OneAnswer
 pub mod EachRecord
 pub mod AtTheEnd

@@ -16,6 +16,14 @@ module _ (from k : ℕ) where
   unfolding stretchEnd
   whole-stretch h = rw (le-ltb (k - from) 64 h)
 
+  -- from an event within k it goes on, and stays within
+  pub stretch-bounds : from < k → (from < stretchEnd from k) × (stretchEnd from k ≤ k)
+  stretch-bounds h = go (decLe 64 (k - from))
+    where
+      go : Dec (64 ≤ k - from) → (from < stretchEnd from k) × (stretchEnd from k ≤ k)
+      go (yes g) = (omega (arith, whole-stretch g), omega (arith, whole-stretch g))
+      go (no g) = let e = to-the-end (omega arith) in (omega arith, omega arith)
+
 -- one more event that does not pass
 pub passed-more : {test : ℕ → Bool} {from r : ℕ} → ((m : ℕ) → from ≤ m → m < r → test m ≡ false) → test r ≡ false
     → (m : ℕ) → from ≤ m → m < r + 1 → test m ≡ false

@@ -1,6 +1,7 @@
 pub mod Lists
 pub mod Listed
 pub mod Marks
+pub mod Goes
 pub mod Answers
 pub mod Rows
 pub mod Leaves

@@ -3,20 +3,35 @@
 // Every byte string, every k and buffers and lists of any length are dealt with. A refusal stores nothing.
 ghost use mathlib.Core.Path.{_≡_};
 ghost use Prim.Native.Nat.{ℕ, _+_, _*_, _≤_, _<_};
-ghost use lib.ListN.{length, getD};
-ghost use Rattle.jobfile.specs.Lent.{was};
+ghost use lib.ListN.{length};
+ghost use Rattle.jobfile.specs.Lent.{was, is};
+ghost use Rattle.jobfile.specs.File.{checkOf};
+ghost use Rattle.jobfile.specs.Trace.{eventAt};
+ghost use Rattle.jobfile.specs.declared.Checked.the-variants.{Accepted};
+ghost use Rattle.strands.specs.Memory.{tasks};
 ghost use Rattle.races.specs.Mark.{rank};
+ghost use Rattle.taking.specs.Buffers.{buffers, before, after};
+ghost use Rattle.taking.specs.Turns.{Run};
 ghost use Rattle.per_record.specs.Lists.{lists, listsBefore, listsAfter, LongEnough};
 ghost use Rattle.per_record.specs.Listed.{hasPair, entered, pairsBelow, enteredBelow};
 ghost use Rattle.per_record.specs.Answers.{isShort};
-ghost use Rattle.per_record.specs.Marks.{markOf, kindIn, secondIn, frozenAt, HasMark, stretchEnd, FirstFrom, pairHeld};
+ghost use Rattle.per_record.specs.Marks.{markOf, kindIn, secondIn, Marked, frozenAt, HasMark, stretchEnd, FirstFrom, pairHeld};
+ghost use Rattle.per_record.specs.Goes.{MayGo, GoesOn, Ran};
+ghost use Rattle.per_record.specs.Gives.{RecordsGives};
 use jobfile::Access;
+use jobfile::Checked;
+use jobfile::Job;
 use jobfile::Kind;
 use jobfile::Refusal;
 use limits::EVENTS;
 use limits::NO_PLACE;
+use limits::NO_STRAND;
+use limits::OPEN_TASKS;
 use limits::RECORDS;
 use races::wide;
+use strands::Now;
+use taking::Reach;
+use taking::until_race;
 
 // How many records raced, the strands begun and both label counts; or a refusal.
 pub enum Answer {
@@ -32,6 +47,79 @@ pub enum Answer {
 // How many events are looked at for accesses of frozen records before they are run. A race on the way has the rest looked at again.
 const STRETCH: usize = 64;
 
+// Judges the first k events of a file, all of them, and lists the raced records with their pairs.
+pub fn judge(
+    file: &[u8],
+    k: usize,
+    labels: &mut [u64],
+    links: &mut [u16],
+    places: &mut [u32],
+    records: &mut [u32],
+    firsts: &mut [u32],
+    seconds: &mut [u32],
+) -> Answer
+    ensures { λ r. ⌜ RecordsGives (was file) k (before labels links places) (listsBefore records firsts seconds) r (after labels links places) (listsAfter records firsts seconds) ⌝ }
+{
+    match jobfile::check(file) {
+        Checked::Refused(r) => Answer::Refused(r),
+        Checked::Accepted(job) => judge_job(
+            file,
+            job,
+            k,
+            labels,
+            links,
+            places,
+            records,
+            firsts,
+            seconds,
+        ),
+    }
+}
+
+// The same for a file that has been checked, with what the check gave.
+// requires: the job is what the check of this very file gives.
+pub fn judge_job(
+    file: &[u8],
+    job: Job,
+    k: usize,
+    labels: &mut [u64],
+    links: &mut [u16],
+    places: &mut [u32],
+    records: &mut [u32],
+    firsts: &mut [u32],
+    seconds: &mut [u32],
+) -> Answer
+    requires { ⌜ checkOf (now file) ≡ Accepted job ⌝ }
+    ensures { λ answer. ⌜ RecordsGives (was file) k (before labels links places) (listsBefore records firsts seconds) answer (after labels links places) (listsAfter records firsts seconds) ⌝ }
+{
+    let fault = judging::judge_fault(job, k, labels.len(), links.len(), places.len());
+    if fault != 0 {
+        return Answer::Refused(jobfile::refuse(fault, 0));
+    }
+    if short(job.records, records.len(), firsts.len(), seconds.len()) {
+        return Answer::Refused(jobfile::refuse(16, 0));
+    }
+    let start = job.start;
+    let end = start + 4 * job.events;
+    let mut marks = [NO_PLACE; RECORDS];
+    let state = run(
+        &file[start..end],
+        k,
+        job.records,
+        labels,
+        links,
+        places,
+        &mut marks,
+    );
+    let raced = list(places, &marks, job.records, records, firsts, seconds);
+    Answer::Judged {
+        raced,
+        strands: state.strands,
+        english: state.english,
+        hebrew: state.hebrew,
+    }
+}
+
 // 16: a list is shorter than the record count.
 fn short(count: usize, records: usize, firsts: usize, seconds: usize) -> bool
     ensures { λ r. ⌜ r ≡ isShort count records firsts seconds ⌝ }
@@ -43,6 +131,81 @@ fn short(count: usize, records: usize, firsts: usize, seconds: usize) -> bool
         return true;
     }
     seconds < count
+}
+
+// Runs over the first k events, past every race. The mark of a record that has raced says which event was the second, and which of the
+// record's places holds the first; that record is frozen, and its accesses are left alone from then on.
+fn run(
+    part: &[u8],
+    k: usize,
+    records: usize,
+    labels: &mut [u64],
+    links: &mut [u16],
+    places: &mut [u32],
+    marks: &mut [u32; RECORDS],
+) -> Now
+    requires { ⌜ Run (now part) records k ⌝ }
+    requires { ⌜ (8192 ≤ length (now labels)) × (16384 ≤ length (now links)) × (16384 ≤ length (now places)) ⌝ }
+    requires { ⌜ Marked (eventAt (now part)) 0 (now marks) ⌝ }
+    ensures { λ r. ⌜ Ran (eventAt (was part)) k records (before labels links places) (after labels links places) (is marks) r ⌝ }
+{
+    races::clear(places, records);
+    let mut lasts = [0; OPEN_TASKS];
+    let mut joins = [NO_STRAND; OPEN_TASKS];
+    let mut state = strands::begin(labels, links);
+    let mut i = 0;
+    while i < k {
+        let reach = go_on(
+            part,
+            i,
+            k,
+            state,
+            &mut lasts,
+            &mut joins,
+            labels,
+            links,
+            places,
+            marks,
+        );
+        state = reach.state;
+        i = reach.at;
+    }
+    state
+}
+
+// Goes on from event i: past an access of a frozen record, or to the end of a stretch, or past the race on the way.
+fn go_on(
+    part: &[u8],
+    i: usize,
+    k: usize,
+    state: Now,
+    lasts: &mut [usize; OPEN_TASKS],
+    joins: &mut [usize; OPEN_TASKS],
+    labels: &mut [u64],
+    links: &mut [u16],
+    places: &mut [u32],
+    marks: &mut [u32; RECORDS],
+) -> Reach
+    requires { ⌜ MayGo (now part) i k (buffers labels links places) (tasks lasts joins) (now marks) state ⌝ }
+    ensures { λ r. ⌜ GoesOn (was part) i k state lasts joins labels links places marks r ⌝ }
+{
+    let to = stretch(part, i, k, marks);
+    if to == i {
+        return Reach { at: i + 1, state };
+    }
+    let reach = until_race(part, i, to, state, lasts, joins, labels, links, places);
+    if reach.at == to {
+        return reach;
+    }
+    let state = reach.state;
+    let found = taking::find(part, reach.at, state, labels, places);
+    let kind = found.kind;
+    let record = found.record;
+    marks[record] = mark(kind, reach.at);
+    Reach {
+        at: reach.at + 1,
+        state,
+    }
 }
 
 // Up to which event from `from` on no access is of a frozen record; no further than a stretch, nor than k.
@@ -141,7 +304,7 @@ fn enter(
     }
     let kind = kind_in(mark);
     records[n] = r as u32;
-    firsts[n] = held(places, kind, r) as u32;
+    firsts[n] = races::held(places, kind, r) as u32;
     seconds[n] = second_in(mark);
     n + 1
 }
@@ -162,14 +325,4 @@ fn second_in(mark: u32) -> u32
         return mark;
     }
     mark - EVENTS as u32
-}
-
-fn held(places: &[u32], kind: Kind, r: usize) -> usize
-    requires { ⌜ 8192 + r < length (now places) ⌝ }
-    ensures { λ f. ⌜ f ≡ getD (was places) (8192 * rank kind + r) 0 ⌝ }
-{
-    match kind {
-        Kind::Write => wide(places[r]),
-        Kind::Read => wide(places[8192 + r]),
-    }
 }
