@@ -8,6 +8,7 @@ pub mod Pairs
 pub mod Rows
 pub mod Gives
 pub mod Going
+pub mod Running
 pub mod OneAnswer
 pub mod EachRecord
 pub mod AtTheEnd
