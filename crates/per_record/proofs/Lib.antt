@@ -12,5 +12,6 @@ pub mod Running
 pub mod OneAnswer
 pub mod EachRecord
 pub mod AtTheEnd
+pub mod Files
 pub mod Demands
 pub mod Starred
