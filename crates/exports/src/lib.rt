@@ -73,7 +73,9 @@ pub extern "C" fn rz_judge_records(
     firsts: &mut [u32],
     seconds: &mut [u32],
     answer: &mut [u64; 6],
-) {
+)
+    ensures { λ _. ⌜ RecordsCallGives (was file) k (before labels links places) (listsBefore records firsts seconds) (is answer) (after labels links places) (listsAfter records firsts seconds) ⌝ }
+{
     *answer = records_numbers(per_record::judge(
         file,
         k as usize,
@@ -171,7 +173,9 @@ fn judge_numbers(a: judging::Answer) -> [u64; 9]
 }
 
 // The numbers of a judgement of every record.
-fn records_numbers(a: per_record::Answer) -> [u64; 6] {
+fn records_numbers(a: per_record::Answer) -> [u64; 6]
+    ensures { λ r. ⌜ r ≡ recordsNumbers a ⌝ }
+{
     match a {
         per_record::Answer::Judged {
             raced,
