@@ -1,29 +1,26 @@
 -- A whole file: the answer, the buffers and the lists from the check, the tests of k and the lengths, the run over the events and the list of
 -- the records. Assumes nothing.
-use mathlib.Core.Path.{_≡_, sym, ap, _∙_, subst}
+use mathlib.Core.Path.{_≡_, sym, _∙_}
 use mathlib.Core.Logic.{_≢_}
 use mathlib.Core.List.{List}
 use mathlib.Core.Bool.{true, false}
 use Prim.Native.Nat.{ℕ, _≤_}
-use native.Mathlib.Omega.{arith}
 use lib.ListN.{length}
 use borrow.Author.Tests.{ne-eqb}
 use Rattle.jobfile.specs.Refusals.{refusalOf}
-use Rattle.jobfile.specs.Trace.{eventAt, moves, begunAt}
+use Rattle.jobfile.specs.Trace.{eventAt}
 use Rattle.jobfile.specs.File.{checkOf, eventPart, eventsFrom, recordCount}
 use Rattle.jobfile.specs.declared.Job.{Job}
 use Rattle.jobfile.specs.declared.event.Event.{Event}
 use Rattle.jobfile.specs.declared.refusal.Refusal.{Refusal}
 use Rattle.jobfile.specs.declared.Checked.the-variants.{Accepted, Refused as Unread}
-use Rattle.jobfile.proofs.Checking.{accepted-fits}
-use Rattle.strands.specs.States.{englishCount, hebrewCount}
 use Rattle.strands.specs.declared.Now.{Now}
 use Rattle.taking.specs.Buffers.{Buffers}
 use Rattle.judging.specs.Answers.{judgeFault}
 use Rattle.judging.specs.Leaves.{Shows}
 use Rattle.judging.proofs.Files.{partOf, part-same}
 use Rattle.per_record.specs.Lists.{Lists}
-use Rattle.per_record.specs.Listed.{pairIn, pairsBelow, enteredBelow, racedBelow, listed}
+use Rattle.per_record.specs.Listed.{pairsBelow, enteredBelow, racedBelow, listed}
 use Rattle.per_record.specs.Marks.{pairHeld}
 use Rattle.per_record.specs.Goes.{Ran}
 use Rattle.per_record.specs.declared.Answer.{Answer}

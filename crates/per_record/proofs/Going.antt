@@ -4,13 +4,13 @@ use mathlib.Core.Path.{_≡_, refl, sym, ap, _∙_}
 use mathlib.Core.Logic.{_≢_}
 use mathlib.Core.List.{List}
 use mathlib.Core.Bool.{Bool, true, false, false≢true, not}
-use mathlib.Core.Option.{none, some}
-use Prim.Native.Nat.{ℕ, suc, _+_, _*_, _-_, _≤_, _<_}
+use mathlib.Core.Option.{some}
+use Prim.Native.Nat.{ℕ, suc, _+_, _-_, _≤_, _<_}
 use native.Mathlib.Omega.{arith}
 use native.Mathlib.Decide.{decLe}
 use native.Mathlib.Numerals.{add-one}
 use lib.Dec.{eqb}
-use lib.ListN.{length, getD, set}
+use lib.ListN.{getD, set}
 use borrow.Author.Tests.{eqb-true, eq-eqb}
 use Rattle.jobfile.specs.Accepted.{RecordBelow}
 use Rattle.jobfile.specs.Events.{accessOf}
@@ -24,14 +24,13 @@ use Rattle.strands.specs.declared.Now.{Now}
 use Rattle.races.specs.Records.{secondOf}
 use Rattle.races.specs.Mark.{rank, rules, eventTrace}
 use Rattle.taking.specs.Buffers.{Buffers}
-use Rattle.taking.specs.Turns.{Run, Midway, Still, Fresh, Races, Runs, Runnable, Went, tasksOver, Reaches, Findable, FirstFound}
+use Rattle.taking.specs.Turns.{Run, Fresh, Races, Runs, Runnable, Went, tasksOver, Reaches, Findable, FirstFound}
 use Rattle.taking.specs.declared.Reach.{Reach}
 use Rattle.taking.specs.declared.Found.{Found}
-use Rattle.taking.proofs.Asking.{on-record}
 use Rattle.taking.proofs.Reaching.{tasks-none}
 use Rattle.taking.proofs.Turned.{frozen-midway, raced-midway, frozen-still}
-use Rattle.per_record.specs.Marks.{markOf, Marked, ofMarked, frozenAt, HasMark, stretchEnd, FirstFrom}
-use Rattle.per_record.specs.Goes.{Going, MayGo, Stop, past-frozen, past-all, past-race, Goes}
+use Rattle.per_record.specs.Marks.{markOf, ofMarked, frozenAt, HasMark, stretchEnd, FirstFrom}
+use Rattle.per_record.specs.Goes.{Going, MayGo, past-frozen, past-all, past-race, Goes}
 use Rattle.per_record.proofs.Stretches.{stretch-bounds}
 use Rattle.per_record.proofs.MarksKept.{unmarked-unraced, marked-raced, still-marked, its-number, raced-marked}
 

@@ -13,5 +13,6 @@ pub mod OneAnswer
 pub mod EachRecord
 pub mod AtTheEnd
 pub mod Files
+pub mod Promise
 pub mod Demands
 pub mod Starred

@@ -9,15 +9,15 @@ use lib.ListN.{getD}
 use Rattle.jobfile.specs.declared.event.Event.{Event}
 use Rattle.jobfile.specs.declared.event.Kind.{Kind}
 use Rattle.jobfile.specs.declared.event.Kind.the-variants.{Write, Read}
-use Rattle.races.specs.Places.{held, finds, foundClass, firstIn, firstOf, given, found}
-use Rattle.races.specs.Records.{no-pair, pair, raced, secondOf, stopOf, pairOf}
+use Rattle.races.specs.Places.{held, finds, foundClass, firstOf, given, found}
+use Rattle.races.specs.Records.{pair, raced, secondOf, stopOf, pairOf}
 use Rattle.races.specs.Shown.{Shown}
 use Rattle.races.specs.Mark.{rank, rules, layout, eventTrace}
 use Rattle.races.proofs.Search.{Least, least-is}
 use Rattle.races.proofs.Found.{found-parts, places-enough}
 use Rattle.races.proofs.Events.{lawful, fit}
 use Rattle.per_record.specs.Listed.{pairIn}
-use Rattle.per_record.specs.Marks.{markOf, Marked, kindIn, secondIn, pairHeld}
+use Rattle.per_record.specs.Marks.{markOf, Marked, pairHeld}
 use Rattle.per_record.proofs.Marking.{kind-back, second-back, mark-fits}
 use Rattle.per_record.proofs.Entering.{unmarked, marked}
 

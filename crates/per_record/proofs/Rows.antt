@@ -1,6 +1,6 @@
 -- Row 16, and that the call is exact by its table. Assumes nothing.
 use Prim.Native.Nat.{ℕ, _<_}
-use mathlib.Core.Path.{_≡_, refl, sym, subst}
+use mathlib.Core.Path.{_≡_, refl, subst}
 use mathlib.Core.Logic.{_⊎_, inl, inr}
 use mathlib.Core.List.{List, _++_}
 use mathlib.Core.Bool.{Bool, true, false, cond}
@@ -24,7 +24,7 @@ use Rattle.taking.specs.Buffers.{Buffers}
 use Rattle.per_record.specs.Lists.{Lists}
 use Rattle.per_record.specs.declared.Answer.{Answer}
 use Rattle.per_record.specs.declared.Answer.the-variants.{Judged, Refused}
-use Rattle.per_record.specs.Answers.{judgedAll, isShort, recordsFault, faultWith, afterCheck, recordsOf, numbersOf}
+use Rattle.per_record.specs.Answers.{judgedAll, isShort, recordsFault, afterCheck, recordsOf, numbersOf}
 use Rattle.per_record.specs.Rows.{listTable, recordsTable}
 
 -- one table behind another, where the answer of the first goes on to the second

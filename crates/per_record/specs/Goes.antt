@@ -36,7 +36,8 @@ pub data Stop (part M : List ℕ) (i k : ℕ) : ℕ → Type 0 where
   past-race : {to n : ℕ} → FirstFrom (frozenAt part M) i (stretchEnd i k) to → i ≤ n → n < to → Still part i n → Races part n → Stop part M i k (suc n)
 
 -- what it gives, for every such run; and every entry of the open tasks' arrays
-pub record Goes (part : List ℕ) (i k : ℕ) (B : Buffers) (T : OpenTasks) (M : List ℕ) (now : Now) (B′ : Buffers) (T′ : OpenTasks) (M′ : List ℕ) (reach : Reach) : Type 0 where
+pub record Goes (part : List ℕ) (i k : ℕ) (B : Buffers) (T : OpenTasks) (M : List ℕ) (now : Now) (B′ : Buffers) (T′ : OpenTasks) (M′ : List ℕ)
+    (reach : Reach) : Type 0 where
   pub went : (records : ℕ) (B₀ : Buffers) → Going part records k B₀ B T M now i → Going part records k B₀ B′ T′ M′ (reach .state) (reach .at)
   pub stop : Stop part M i k (reach .at)
   pub onward : i < reach .at

@@ -58,7 +58,8 @@ pub fn judge(
     firsts: &mut [u32],
     seconds: &mut [u32],
 ) -> Answer
-    ensures { λ r. ⌜ RecordsGives (was file) k (before labels links places) (listsBefore records firsts seconds) r (after labels links places) (listsAfter records firsts seconds) ⌝ }
+    ensures { λ r. ⌜ RecordsGives (was file) k (before labels links places) (listsBefore records firsts seconds) r
+        (after labels links places) (listsAfter records firsts seconds) ⌝ }
 {
     match jobfile::check(file) {
         Checked::Refused(r) => Answer::Refused(r),
@@ -90,7 +91,8 @@ pub fn judge_job(
     seconds: &mut [u32],
 ) -> Answer
     requires { ⌜ checkOf (now file) ≡ Accepted job ⌝ }
-    ensures { λ answer. ⌜ RecordsGives (was file) k (before labels links places) (listsBefore records firsts seconds) answer (after labels links places) (listsAfter records firsts seconds) ⌝ }
+    ensures { λ answer. ⌜ RecordsGives (was file) k (before labels links places) (listsBefore records firsts seconds) answer
+        (after labels links places) (listsAfter records firsts seconds) ⌝ }
 {
     let fault = judging::judge_fault(job, k, labels.len(), links.len(), places.len());
     if fault != 0 {

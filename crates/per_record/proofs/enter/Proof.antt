@@ -1,5 +1,4 @@
 -- `enter` meets its contract: a record without a mark is left out; one with a mark goes to entry n. Assumes nothing.
-use native.Mathlib.Omega.{arith}
 use Rattle.per_record.proofs.Entering.{not-entered, is-entered}
 use borrow.Author.Needs.{needs}
 use Rattle.per_record.proofs.enter.Statement.{statement}

@@ -58,7 +58,8 @@ mark-requires c κs =
     let passed = ran .before .before .before .before .before .before in
     let went = passed .before in
     let asked = went .before .before .before .before .before .before .pre in
-    omega (arith, within-run asked _ (went .stretch .ensures) _ _ _ (ran .until-race .ensures) (passed .if1 .left) (tested .if2 .left), asked .going .run .within, asked .going .run .small)
+    let next = within-run asked _ (went .stretch .ensures) _ _ _ (ran .until-race .ensures) (passed .if1 .left) (tested .if2 .left) in
+    omega (arith, next, asked .going .run .within, asked .going .run .small)
 
 mul-marks : tie.Need-mul-marks
 mul-marks c =
@@ -97,7 +98,8 @@ returns-3 c =
     let passed = ran .before .before .before .before .before .before in
     let went = passed .before in
     let asked = went .before .before .before .before .before .before .pre in
-    goes-past-race asked _ (went .stretch .ensures) _ _ _ (ran .until-race .ensures) (passed .if1 .left) (tested .if2 .left) _ (c .before .before .find .ensures) _ (c .before .mark .ensures)
+    goes-past-race asked _ (went .stretch .ensures) _ _ _ (ran .until-race .ensures) (passed .if1 .left) (tested .if2 .left)
+    _ (c .before .before .find .ensures) _ (c .before .mark .ensures)
 
 pub go-on-spec : {M : Type 1} → statement M
 go-on-spec =

@@ -45,10 +45,16 @@ returns-2 c =
     (search needs)
 
 mul-end : tie.Need-mul-end
-mul-end c = let start = c .before .before .before .before .before .before .before .before .before .before .before .before in omega (arith, accepted-fits _ _ (start .pre))
+mul-end c =
+    let tested = c .before .before .before .before in
+    let start = tested .before .before .before .before .before .before .before .before in
+    omega (arith, accepted-fits _ _ (start .pre))
 
 add-end : tie.Need-add-end
-add-end c = let start = c .before .before .before .before .before .before .before .before .before .before .before .before in omega (arith, accepted-fits _ _ (start .pre))
+add-end c =
+    let tested = c .before .before .before .before in
+    let start = tested .before .before .before .before .before .before .before .before in
+    omega (arith, accepted-fits _ _ (start .pre))
 
 sub-run : tie.Need-sub-run
 sub-run c = search needs
@@ -57,7 +63,10 @@ part-run-start : tie.Need-part-run-start
 part-run-start c = search needs
 
 part-run-end : tie.Need-part-run-end
-part-run-end c = let start = c .before .before .before .before .before .before .before .before .before .before .before .before in omega (arith, accepted-fits _ _ (start .pre))
+part-run-end c =
+    let tested = c .before .before .before .before in
+    let start = tested .before .before .before .before .before .before .before .before in
+    omega (arith, accepted-fits _ _ (start .pre))
 
 run-requires : tie.Need-run-requires
 run-requires c κs =

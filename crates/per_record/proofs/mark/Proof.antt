@@ -1,5 +1,5 @@
 -- `mark` meets its contract: a million more for a read. Assumes nothing.
-use mathlib.Core.Path.{_≡_, ap}
+use mathlib.Core.Path.{ap}
 use native.Mathlib.Omega.{arith}
 use borrow.Author.Needs.{needs}
 use Rattle.races.specs.Mark.{rank}
