@@ -1,4 +1,4 @@
-// The line of each answer, from the start of a buffer. Each function answers where the next bytes go.
+// The line of each answer, from the start of a buffer, and its parts, at any place of one. Each function answers where the next bytes go.
 ghost use Prim.Native.Nat.{_+_, _*_, _≤_};
 ghost use lib.ListN.{length};
 ghost use Rattle.jobfile.specs.Lent.{was, is};
@@ -30,18 +30,18 @@ fn letter(out: &mut [u8], at: usize, access: Access) -> usize
 }
 
 // requires: there is room for three words and three numbers.
-fn pair(out: &mut [u8], number: usize, first: usize, second: usize) -> usize
-    requires { ⌜ 87 ≤ length (now out) ⌝ }
-    ensures { λ r. ⌜ Put (was out) 0 (pairText number first second) r (is out) ⌝ }
-    ensures { λ r. ⌜ r ≤ 87 ⌝ }
+pub fn pair(out: &mut [u8], at: usize, number: usize, first: usize, second: usize) -> usize
+    requires { ⌜ at + 87 ≤ length (now out) ⌝ }
+    ensures { λ r. ⌜ Put (was out) at (pairText number first second) r (is out) ⌝ }
+    ensures { λ r. ⌜ r ≤ at + 87 ⌝ }
 {
-    let a = field(out, 0, b"race record ", number);
+    let a = field(out, at, b"race record ", number);
     let b = field(out, a, b" first ", first);
     field(out, b, b" second ", second)
 }
 
 // requires: there is room for the nine bytes, and both events are there.
-fn kinds(out: &mut [u8], at: usize, events: &[u8], first: usize, second: usize) -> usize
+pub fn kinds(out: &mut [u8], at: usize, events: &[u8], first: usize, second: usize) -> usize
     requires { ⌜ at + 9 ≤ length (now out) ⌝ }
     requires { ⌜ 4 * first + 4 ≤ length (now events) ⌝ }
     requires { ⌜ 4 * second + 4 ≤ length (now events) ⌝ }
@@ -56,7 +56,7 @@ fn kinds(out: &mut [u8], at: usize, events: &[u8], first: usize, second: usize) 
 }
 
 // requires: there is room for three words and three numbers.
-fn counts(out: &mut [u8], at: usize, strands: usize, english: usize, hebrew: usize) -> usize
+pub fn counts(out: &mut [u8], at: usize, strands: usize, english: usize, hebrew: usize) -> usize
     requires { ⌜ at + 86 ≤ length (now out) ⌝ }
     ensures { λ r. ⌜ Put (was out) at (countsText strands english hebrew) r (is out) ⌝ }
     ensures { λ r. ⌜ r ≤ at + 86 ⌝ }
@@ -67,7 +67,7 @@ fn counts(out: &mut [u8], at: usize, strands: usize, english: usize, hebrew: usi
 }
 
 // requires: there is room for the name and seven bytes more.
-fn ending(out: &mut [u8], at: usize, name: &[u8]) -> usize
+pub fn ending(out: &mut [u8], at: usize, name: &[u8]) -> usize
     requires { ⌜ at + length (now name) + 7 ≤ length (now out) ⌝ }
     ensures { λ r. ⌜ Put (was out) at (nameText (was name)) r (is out) ⌝ }
     ensures { λ r. ⌜ r ≤ at + length (was name) + 7 ⌝ }
@@ -89,7 +89,7 @@ pub fn refusal(out: &mut [u8], refused: Refusal) -> usize
 }
 
 // requires: there is room for the name and 98 bytes more.
-fn clean(out: &mut [u8], strands: usize, english: usize, hebrew: usize, name: &[u8]) -> usize
+pub fn clean(out: &mut [u8], strands: usize, english: usize, hebrew: usize, name: &[u8]) -> usize
     requires { ⌜ length (now name) + 98 ≤ length (now out) ⌝ }
     ensures { λ r. ⌜ Put (was out) 0 (cleanText strands english hebrew (was name)) r (is out) ⌝ }
     ensures { λ r. ⌜ r ≤ length (was name) + 98 ⌝ }
@@ -117,7 +117,7 @@ fn race(
     ensures { λ r. ⌜ Put (was out) 0 (raceText first second number strands english hebrew (was events) (was name)) r (is out) ⌝ }
     ensures { λ r. ⌜ r ≤ length (was name) + 189 ⌝ }
 {
-    let a = pair(out, number, first, second);
+    let a = pair(out, 0, number, first, second);
     let b = kinds(out, a, events, first, second);
     let c = counts(out, b, strands, english, hebrew);
     ending(out, c, name)

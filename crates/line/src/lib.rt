@@ -1,10 +1,18 @@
 // The one line that the program prints: its bytes, in the caller's output.
 //
 // Every input is dealt with. The input's bytes and the lengths of the work buffers determine every
-// byte of the line. No public entry point has a `requires`.
+// byte of the line. No public entry point has a `requires`; the parts of a line that are lent to a
+// crate above have one, with its reason.
 mod answers;
 mod text;
 
+pub use answers::clean;
+pub use answers::counts;
+pub use answers::ending;
+pub use answers::kinds;
+pub use answers::pair;
+pub use answers::refusal;
+pub use text::field;
 ghost use mathlib.Core.Path.{_≡_};
 ghost use Prim.Native.Nat.{_≤_};
 ghost use lib.ListN.{length};
