@@ -5,38 +5,11 @@ ghost use lib.ListN.{length};
 ghost use Rattle.io.specs.Counts.{Counts};
 ghost use Rattle.jobfile.specs.Lent.{was, is};
 ghost use Rattle.bytes_at.specs.Put.{Put};
-ghost use Rattle.judge.specs.Printed.{printedOf, InputFits};
+ghost use Rattle.judge.specs.Printed.{printedOf};
 use bytes_at::put;
-use libc::STDIN_FILENO;
+use input::Input;
+use input::MOST;
 use libc::STDOUT_FILENO;
-
-// The most bytes that the program takes.
-const MOST: usize = 65536;
-
-// How many bytes standard input has, as far as there is room for them; or a read failed.
-enum Input {
-    Bytes(usize),
-    Failed,
-}
-
-// Standard input from its start, until it ends or the buffer is full.
-fn read(buffer: &mut [u8]) -> Input
-    ensures { λ r. ⌜ InputFits r (is buffer) ⌝ }
-{
-    let mut n = 0;
-    while n < buffer.len() {
-        let got = libc::read(STDIN_FILENO, &mut buffer[n..]);
-        if got < 0 {
-            return Input::Failed;
-        }
-        let more = io::count(got, &buffer[n..]);
-        if more == 0 {
-            return Input::Bytes(n);
-        }
-        n += more;
-    }
-    Input::Bytes(n)
-}
 
 // What is printed for the input, at the start of `out`; answers how many bytes.
 // requires: there is room for the longest line.
@@ -61,7 +34,7 @@ fn printed(input: &[u8], out: &mut [u8]) -> usize
 fn main() {
     let mut buffer = [0u8; MOST + 1];
     let mut out = [0u8; 256];
-    match read(&mut buffer) {
+    match input::read(&mut buffer) {
         Input::Bytes(n) => {
             let length = printed(&buffer[..n], &mut out);
             if !io::write_all(STDOUT_FILENO, &out[..length]) {
