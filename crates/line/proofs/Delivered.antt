@@ -27,8 +27,8 @@ module _ (line out : List ℕ) where
       let whole : after ≡ line ++ drop (length line) out = rw zero-add at (put-whole p) in
       rw (le-ltb (length out) (length line)) (rw (p .count, zero-add), (whole, (omega (arith, p .count), put-counted p)))
 
-  -- an answer that counts bytes has put the line there
-  put-by : (short : Bool) (after : List ℕ) (n : ℕ) → Bytes n ≡ cond short Short (Bytes (length line))
+  -- an answer that counts bytes has put the line there, whatever test says that an output is short
+  pub put-by : (short : Bool) (after : List ℕ) (n : ℕ) → Bytes n ≡ cond short Short (Bytes (length line))
       → after ≡ cond short out (line ++ drop (length line) out) → Put out 0 line n after
   put-by true after n e o = let z : _≡_ {A = ℕ} 0 1 = cc in absurd (omega arith)
   put-by false after n e o =

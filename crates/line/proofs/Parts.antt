@@ -72,25 +72,26 @@ leaves-none input labels links places r e B = rw (refused-line input labels link
 pub start-short : (input : List ℕ) (job : Job) → checkOf input ≡ Accepted job → length (take (job .start) input) ≤ 64
 start-short input job ok = rw length-take (omega (arith, accepted-fits input job ok .0))
 
+-- the events as the part from the start to the end that the code works out
+pub part-same : (input : List ℕ) (job : Job) → checkOf input ≡ Accepted job
+    → take (job .start + 4 * job .events - job .start) (drop (job .start) input) ≡ eventPart input
+part-same input job ok = rw (ok, add-sub-cancel-left (job .start) (4 * job .events))
+
 -- an input that it accepts: what is known of the answer a for all its events
 module _ (input : List ℕ) (labels links places : ℕ) (job : Job) (ok : checkOf input ≡ Accepted job) (a : Answer)
     (judged : a ≡ judgeOf input (job .events) labels links places) where
   pub all-judged : a ≡ answerOf input labels links places
   all-judged = judged ∙ rw ok
 
-  -- the events as the part from the start to the end that the code works out
-  part-same : take (job .start + 4 * job .events - job .start) (drop (job .start) input) ≡ eventPart input
-  part-same = rw (ok, add-sub-cancel-left (job .start) (4 * job .events))
-
   pub pair-there : PairWithin a (length (take (job .start + 4 * job .events - job .start) (drop (job .start) input)))
-  pair-there = rw (all-judged, part-same, events-size input) (pair-within input labels links places)
+  pair-there = rw (all-judged, part-same input job ok, events-size input) (pair-within input labels links places)
 
   pub line-is : answerText a (take (job .start + 4 * job .events - job .start) (drop (job .start) input)) (take (job .start) input)
       ≡ lineOf input labels links places
   unfolding lineOf
   line-is =
       let name : take (job .start) input ≡ take (nameLength (checkOf input)) input = rw ok in
-      rw (all-judged, part-same, name)
+      rw (all-judged, part-same input job ok, name)
 
   pub leaves-all : (B₀ B : Buffers) → Leaves a input (job .events) B₀ B
       → Leaves (answerOf input labels links places) input (eventCount (checkOf input)) B₀ B

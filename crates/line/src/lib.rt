@@ -25,7 +25,7 @@ use bytes_at::put;
 use jobfile::Checked;
 use jobfile::Job;
 
-// How many bytes the line has; or that the output is shorter than it.
+// How many bytes were put; or that the output is too short for them.
 pub enum Lined {
     Bytes(usize),
     Short,

@@ -3,9 +3,45 @@ ghost use Prim.Native.Nat.{_+_, _*_, _≤_};
 ghost use lib.ListN.{length};
 ghost use Rattle.jobfile.specs.Lent.{was, is};
 ghost use Rattle.bytes_at.specs.Put.{Put};
-ghost use Rattle.lines.specs.Text.{entryText, entriesText, racedText, EntriesWithin};
+ghost use Rattle.per_record.specs.Answers.{numbersOf};
+ghost use Rattle.per_record.specs.Lists.{lists, listsBefore};
+ghost use Rattle.lines.specs.Text.{entryText, entriesText, racedText, answerText, EntriesWithin, AnswerWithin};
 use bytes_at::put;
+use per_record::Answer;
 use races::wide;
+
+// The text of an answer, for the event part and the name of the file and the lists that came with the answer.
+// requires: there is room for the longest text, and the entries of the raced records and the events of each are there.
+pub fn answer(
+    out: &mut [u8],
+    answer: Answer,
+    events: &[u8],
+    name: &[u8],
+    records: &[u32],
+    firsts: &[u32],
+    seconds: &[u32],
+) -> usize
+    requires { ⌜ 397495 ≤ length (now out) ⌝ }
+    requires { ⌜ length (now name) ≤ 64 ⌝ }
+    requires { ⌜ AnswerWithin answer (length (now events)) (lists records firsts seconds) ⌝ }
+    ensures { λ r. ⌜ Put (was out) 0 (answerText answer (entriesText (was events) (listsBefore records firsts seconds) (numbersOf answer .raced)) (was name)) r (is out) ⌝ }
+{
+    match answer {
+        Answer::Judged {
+            raced,
+            strands,
+            english,
+            hebrew,
+        } => {
+            if raced == 0 {
+                return line::clean(out, strands, english, hebrew, name);
+            }
+            let at = entries(out, events, records, firsts, seconds, raced);
+            last(out, at, raced, strands, english, hebrew, name)
+        }
+        Answer::Refused(r) => line::refusal(out, r),
+    }
+}
 
 // The line of one raced record.
 // requires: there is room for its 97 bytes, and both events are there.
@@ -39,8 +75,8 @@ fn entries(
     n: usize,
 ) -> usize
     requires { ⌜ 97 * n ≤ length (now out) ⌝ }
-    requires { ⌜ EntriesWithin (length (now events)) (now records) (now firsts) (now seconds) n ⌝ }
-    ensures { λ r. ⌜ Put (was out) 0 (entriesText (was events) (was records) (was firsts) (was seconds) n) r (is out) ⌝ }
+    requires { ⌜ EntriesWithin (length (now events)) (lists records firsts seconds) n ⌝ }
+    ensures { λ r. ⌜ Put (was out) 0 (entriesText (was events) (listsBefore records firsts seconds) n) r (is out) ⌝ }
     ensures { λ r. ⌜ r ≤ 97 * n ⌝ }
 {
     let mut at = 0;

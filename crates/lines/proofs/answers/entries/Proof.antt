@@ -12,13 +12,13 @@ use Rattle.lines.proofs.answers.entries.Tie as tie
 
 abbrev Inv-loop : tie.InvT-loop
 Inv-loop out₀ events records firsts seconds n at₀ i₀ out at i =
-    (i ≤ n) × (at ≤ 97 * i) × (length out ≡ length out₀) × Put out₀ 0 (entriesText events records firsts seconds i) at out
+    (i ≤ n) × (at ≤ 97 * i) × (length out ≡ length out₀) × Put out₀ 0 (entriesText events (record { records = records; firsts = firsts; seconds = seconds }) i) at out
 
 abbrev μ-loop : tie.MeasureT-loop
 μ-loop out₀ events records firsts seconds n at₀ i₀ out at i = n - i
 
 loop-holds : tie.Need-loop-holds Inv-loop μ-loop
-loop-holds c = (omega arith, omega arith, refl, entries-none _ _ _ _ _)
+loop-holds c = (omega arith, omega arith, refl, entries-none _ _ _)
 
 mul-wide : tie.Need-mul-wide Inv-loop μ-loop
 mul-wide c = search needs
@@ -69,7 +69,7 @@ loop-again c =
     let number = first .before .before in
     let loop = number .before .before .before .before in
     let line = rw (number .wide .ensures, first .wide2 .ensures, second .wide3 .ensures) at (put .entry .ensures .0) in
-    (omega arith, omega (arith, put .entry .ensures .1), omega arith, entries-more _ _ _ _ _ (loop .loop .inv .3) line)
+    (omega arith, omega (arith, put .entry .ensures .1), omega arith, entries-more _ _ _ (loop .loop .inv .3) line)
 
 same-length : tie.Need-same-length Inv-loop μ-loop
 same-length c = search needs

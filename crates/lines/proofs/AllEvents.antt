@@ -1,0 +1,143 @@
+-- What is known of the answer about all events of an input: the entries that it counts are there and their events too, its text is the
+-- input's, and so is what is left. Assumes nothing.
+use Prim.Native.Nat.{ℕ, zero, suc, _+_, _*_, _-_, _≤_}
+use native.Mathlib.Omega.{arith}
+use mathlib.Core.Path.{_≡_, refl, sym, subst, _∙_}
+use mathlib.Core.Bool.{Bool, true, false, cond, false≢true}
+use mathlib.Core.List.{List}
+use lib.Dec.{eqb, ltb}
+use lib.ListN.{length, take, drop}
+use borrow.Author.Tests.{eqb-true, eqb-false, ltb-false}
+use Rattle.jobfile.specs.Refusals.{refusalOf}
+use Rattle.jobfile.specs.Trace.{eventAt, moves}
+use Rattle.jobfile.specs.File.{checkOf, nameLength, eventCount, recordCount, eventsFrom, eventPart}
+use Rattle.jobfile.specs.declared.Job.{Job}
+use Rattle.jobfile.specs.declared.refusal.Refusal.{Refusal}
+use Rattle.jobfile.specs.declared.Checked.the-variants.{Accepted, Refused as Unread}
+use Rattle.jobfile.proofs.Checking.{accepted-fits, accepted}
+use Rattle.relation.specs.Parallel.{Parallel}
+use Rattle.races.specs.Records.{Pair, no-pair, pair}
+use Rattle.races.specs.Mark.{rules, eventTrace}
+use Rattle.races.proofs.Records.{pair-is}
+use Rattle.races.proofs.Events.{lawful, fit, tied}
+use Rattle.bytes_at.specs.Put.{Put}
+use Rattle.taking.specs.Buffers.{Buffers}
+use Rattle.judging.specs.Answers.{judgeFault}
+use Rattle.per_record.specs.Lists.{Lists, LongEnough}
+use Rattle.per_record.specs.Listed.{pairIn, pairsBelow, enteredBelow}
+use Rattle.per_record.specs.Answers.{isShort, recordsFault, faultWith, judgedAll, recordsOf, numbersOf}
+use Rattle.per_record.specs.Leaves.{Leaves}
+use Rattle.per_record.specs.declared.Answer.{Answer}
+use Rattle.per_record.specs.declared.Answer.the-variants.{Judged, Refused}
+use Rattle.per_record.proofs.Listing.{below-at-most}
+use Rattle.line.specs.Text.{refusalText}
+use Rattle.line.proofs.Parts.{part-same, events-size}
+use Rattle.lines.specs.Text.{pairLines, judgedText, answerText, entriesText, EntriesWithin, AnswerWithin}
+use Rattle.lines.specs.Lines.{answerOf, racesOf, linesOf}
+use Rattle.lines.proofs.Entries.{entries-are-pairs, entries-within}
+
+none-true : (a b c : Bool) → cond a true (cond b true c) ≡ false → (a ≡ false) × (b ≡ false) × (c ≡ false)
+none-true true b c e = absurd (false≢true (sym e))
+none-true false true c e = absurd (false≢true (sym e))
+none-true false false c e = (refl, refl, e)
+
+not-short : (fault : ℕ) (short none : Bool) → eqb fault 0 ≡ none → cond none (cond short 16 0) fault ≡ 0 → short ≡ false
+not-short fault true true e f = absurd (omega arith)
+not-short fault false true e f = refl
+not-short fault short false e f = absurd (eqb-false fault 0 e f)
+
+-- where no fault is told, no list is shorter than the record count
+long-enough : (events strands count k : ℕ) (B : Buffers) (L : Lists) → faultWith events strands count k B L ≡ 0 → LongEnough count L
+unfolding recordsFault isShort
+long-enough events strands count k B L e =
+    let fault = judgeFault events strands k (length (B .labels)) (length (B .links)) (length (B .places)) in
+    let short = not-short fault (isShort count (length (L .records)) (length (L .firsts)) (length (L .seconds))) (eqb fault 0) refl e in
+    let each = none-true (ltb (length (L .records)) count) (ltb (length (L .firsts)) count) (ltb (length (L .seconds)) count) short in
+    record {
+      records = ltb-false (length (L .records)) count (each .0);
+      firsts = ltb-false (length (L .firsts)) count (each .1);
+      seconds = ltb-false (length (L .seconds)) count (each .2);
+    }
+
+-- an input that the check refuses: its text is the refusal's, and nothing is stored
+module _ (input : List ℕ) (B : Buffers) (L : Lists) (r : Refusal) (unread : checkOf input ≡ Unread r) where
+  pub refused-text : (out after : List ℕ) (n : ℕ) → Put out 0 (refusalText r) n after → Put out 0 (linesOf input B L) n after
+  unfolding linesOf recordsOf
+  refused-text out after n p = rw unread p
+
+  pub leaves-none : Leaves (answerOf input B L) input (eventCount (checkOf input)) B L B L
+  unfolding recordsOf
+  leaves-none = rw unread (refl, refl)
+
+-- the pairs of the records of a job
+abbrev pairsIn : List ℕ → Job → ℕ → Pair
+pairsIn input job = pairIn (eventAt (eventsFrom input (job .start) (job .events))) (job .events)
+
+module _ (input : List ℕ) (job : Job) (ok : checkOf input ≡ Accepted job) where
+  -- both events of a pair are among the events
+  pair-within : (r i j : ℕ) → pairsIn input job r ≡ pair i j → (4 * i + 4 ≤ 4 * job .events) × (4 * j + 4 ≤ 4 * job .events)
+  pair-within r i j e =
+      let ev = eventAt (eventsFrom input (job .start) (job .events)) in
+      let k = job .events in
+      let P = pair-is rules (eventTrace ev) (lawful ev) (fit ev) (Parallel (moves ev)) k (tied ev k (λ m l. accepted input job ok .rooted m l)) r i j .0 e in
+      (omega (arith, P .within, P .is-race .earlier), omega (arith, P .within))
+
+  module _ (B₀ : Buffers) (L₀ : Lists) where
+    -- an answer that counts raced records counts those of the job, and the lists have room for every record
+    abbrev Counted : Answer → Type 0
+    Counted (Judged raced strands english hebrew) = (raced ≡ pairsBelow (pairsIn input job) (job .records)) × LongEnough (job .records) L₀
+    Counted (Refused r) = Unit {0}
+
+    counted : Counted (recordsOf input (job .events) B₀ L₀)
+    unfolding recordsOf judgedAll
+    counted = rw ok (by (eqb (faultWith (job .events) (job .strands) (job .records) (job .events) B₀ L₀) 0) refl)
+      where
+        by : (none : Bool) → eqb (faultWith (job .events) (job .strands) (job .records) (job .events) B₀ L₀) 0 ≡ none
+            → Counted (cond none (judgedAll (eventAt (eventsFrom input (job .start) (job .events))) (job .events) (job .records))
+            (Refused (refusalOf (faultWith (job .events) (job .strands) (job .records) (job .events) B₀ L₀) 0)))
+        by true e = (refl, long-enough _ _ _ _ B₀ L₀ (eqb-true _ 0 e))
+        by false e = tt
+
+    -- the entries of the answer are there, and the lines of them are those of the raced records
+    entries-told : (a : Answer) → Counted a → (B : Buffers) (L : Lists) → Leaves a input (job .events) B₀ L₀ B L
+        → AnswerWithin a (4 * job .events) L
+        × (answerText a (entriesText (eventsFrom input (job .start) (job .events)) L (numbersOf a .raced)) (take (job .start) input)
+        ≡ answerText a (pairLines (eventsFrom input (job .start) (job .events)) (pairsIn input job) (job .records)) (take (job .start) input))
+    entries-told (Refused r) c B L left = (tt, refl)
+    entries-told (Judged raced strands english hebrew) c B L left =
+        let L-is : L ≡ enteredBelow (pairsIn input job) L₀ (job .records) = rw ok at (left .1) in
+        let few = below-at-most (pairsIn input job) (job .records) in
+        let fits = accepted-fits input job ok in
+        let raced-is = c .0 in (
+          (omega arith, rw (L-is, raced-is) (entries-within (pairsIn input job) L₀ (job .records) (c .1) (4 * job .events) pair-within)),
+          rw (L-is, raced-is, entries-are-pairs (pairsIn input job) L₀ (job .records) (c .1) (eventsFrom input (job .start) (job .events)) (job .records) (omega arith)),
+        )
+
+    -- the answer a, and what it leaves
+    module _ (a : Answer) (judged : a ≡ recordsOf input (job .events) B₀ L₀) (B : Buffers) (L : Lists) (left : Leaves a input (job .events) B₀ L₀ B L) where
+      all-judged : a ≡ answerOf input B₀ L₀
+      all-judged = judged ∙ rw ok
+
+      pub leaves-all : Leaves (answerOf input B₀ L₀) input (eventCount (checkOf input)) B₀ L₀ B L
+      leaves-all =
+          let count : job .events ≡ eventCount (checkOf input) = rw ok in
+          rw (← all-judged, ← count) left
+
+      told : AnswerWithin a (4 * job .events) L
+          × (answerText a (entriesText (eventsFrom input (job .start) (job .events)) L (numbersOf a .raced)) (take (job .start) input)
+          ≡ answerText a (pairLines (eventsFrom input (job .start) (job .events)) (pairsIn input job) (job .records)) (take (job .start) input))
+      told = entries-told a (subst Counted (sym judged) counted) B L left
+
+      -- of the events as the part that the code works out
+      part-is : take (job .start + 4 * job .events - job .start) (drop (job .start) input) ≡ eventsFrom input (job .start) (job .events)
+      part-is = part-same input job ok ∙ rw ok
+
+      pub answer-there : AnswerWithin a (length (take (job .start + 4 * job .events - job .start) (drop (job .start) input))) L
+      answer-there =
+          let size : length (eventsFrom input (job .start) (job .events)) ≡ 4 * job .events = rw ok at (events-size input) in
+          rw (part-is, size) (told .0)
+
+      pub text-is : answerText a (entriesText (take (job .start + 4 * job .events - job .start) (drop (job .start) input)) L (numbersOf a .raced)) (take (job .start) input)
+          ≡ linesOf input B₀ L₀
+      unfolding linesOf
+      text-is = rw part-is (told .1 ∙ rw (all-judged, ok))
