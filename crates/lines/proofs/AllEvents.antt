@@ -1,6 +1,6 @@
 -- What is known of the answer about all events of an input: the entries that it counts are there and their events too, its text is the
 -- input's, and so is what is left. Assumes nothing.
-use Prim.Native.Nat.{ℕ, zero, suc, _+_, _*_, _-_, _≤_}
+use Prim.Native.Nat.{ℕ, _+_, _*_, _-_, _≤_}
 use native.Mathlib.Omega.{arith}
 use mathlib.Core.Path.{_≡_, refl, sym, subst, _∙_}
 use mathlib.Core.Bool.{Bool, true, false, cond, false≢true}
@@ -10,13 +10,13 @@ use lib.ListN.{length, take, drop}
 use borrow.Author.Tests.{eqb-true, eqb-false, ltb-false}
 use Rattle.jobfile.specs.Refusals.{refusalOf}
 use Rattle.jobfile.specs.Trace.{eventAt, moves}
-use Rattle.jobfile.specs.File.{checkOf, nameLength, eventCount, recordCount, eventsFrom, eventPart}
+use Rattle.jobfile.specs.File.{checkOf, eventCount, eventsFrom}
 use Rattle.jobfile.specs.declared.Job.{Job}
 use Rattle.jobfile.specs.declared.refusal.Refusal.{Refusal}
 use Rattle.jobfile.specs.declared.Checked.the-variants.{Accepted, Refused as Unread}
 use Rattle.jobfile.proofs.Checking.{accepted-fits, accepted}
 use Rattle.relation.specs.Parallel.{Parallel}
-use Rattle.races.specs.Records.{Pair, no-pair, pair}
+use Rattle.races.specs.Records.{Pair, pair}
 use Rattle.races.specs.Mark.{rules, eventTrace}
 use Rattle.races.proofs.Records.{pair-is}
 use Rattle.races.proofs.Events.{lawful, fit, tied}
@@ -25,15 +25,15 @@ use Rattle.taking.specs.Buffers.{Buffers}
 use Rattle.judging.specs.Answers.{judgeFault}
 use Rattle.per_record.specs.Lists.{Lists, LongEnough}
 use Rattle.per_record.specs.Listed.{pairIn, pairsBelow, enteredBelow}
-use Rattle.per_record.specs.Answers.{isShort, recordsFault, faultWith, judgedAll, recordsOf, numbersOf}
+use Rattle.per_record.specs.Answers.{isShort, recordsFault, faultWith, judgedAll, recordsOf}
 use Rattle.per_record.specs.Leaves.{Leaves}
 use Rattle.per_record.specs.declared.Answer.{Answer}
 use Rattle.per_record.specs.declared.Answer.the-variants.{Judged, Refused}
 use Rattle.per_record.proofs.Listing.{below-at-most}
 use Rattle.line.specs.Text.{refusalText}
 use Rattle.line.proofs.Parts.{part-same, events-size}
-use Rattle.lines.specs.Text.{pairLines, judgedText, answerText, entriesText, EntriesWithin, AnswerWithin}
-use Rattle.lines.specs.Lines.{answerOf, racesOf, linesOf}
+use Rattle.lines.specs.Text.{pairLines, answerText, listedText, AnswerWithin}
+use Rattle.lines.specs.Lines.{answerOf, linesOf}
 use Rattle.lines.proofs.Entries.{entries-are-pairs, entries-within}
 
 none-true : (a b c : Bool) → cond a true (cond b true c) ≡ false → (a ≡ false) × (b ≡ false) × (c ≡ false)
@@ -73,13 +73,18 @@ module _ (input : List ℕ) (B : Buffers) (L : Lists) (r : Refusal) (unread : ch
 abbrev pairsIn : List ℕ → Job → ℕ → Pair
 pairsIn input job = pairIn (eventAt (eventsFrom input (job .start) (job .events))) (job .events)
 
+-- the event part, from where the job says it starts to where it ends
+abbrev pub partFrom : List ℕ → Job → List ℕ
+partFrom input job = take (job .start + 4 * job .events - job .start) (drop (job .start) input)
+
 module _ (input : List ℕ) (job : Job) (ok : checkOf input ≡ Accepted job) where
   -- both events of a pair are among the events
   pair-within : (r i j : ℕ) → pairsIn input job r ≡ pair i j → (4 * i + 4 ≤ 4 * job .events) × (4 * j + 4 ≤ 4 * job .events)
   pair-within r i j e =
       let ev = eventAt (eventsFrom input (job .start) (job .events)) in
       let k = job .events in
-      let P = pair-is rules (eventTrace ev) (lawful ev) (fit ev) (Parallel (moves ev)) k (tied ev k (λ m l. accepted input job ok .rooted m l)) r i j .0 e in
+      let tie = tied ev k (λ m l. accepted input job ok .rooted m l) in
+      let P = pair-is rules (eventTrace ev) (lawful ev) (fit ev) (Parallel (moves ev)) k tie r i j .0 e in
       (omega (arith, P .within, P .is-race .earlier), omega (arith, P .within))
 
   module _ (B₀ : Buffers) (L₀ : Lists) where
@@ -101,20 +106,22 @@ module _ (input : List ℕ) (job : Job) (ok : checkOf input ≡ Accepted job) wh
     -- the entries of the answer are there, and the lines of them are those of the raced records
     entries-told : (a : Answer) → Counted a → (B : Buffers) (L : Lists) → Leaves a input (job .events) B₀ L₀ B L
         → AnswerWithin a (4 * job .events) L
-        × (answerText a (entriesText (eventsFrom input (job .start) (job .events)) L (numbersOf a .raced)) (take (job .start) input)
+        × (listedText a (eventsFrom input (job .start) (job .events)) L (take (job .start) input)
         ≡ answerText a (pairLines (eventsFrom input (job .start) (job .events)) (pairsIn input job) (job .records)) (take (job .start) input))
     entries-told (Refused r) c B L left = (tt, refl)
     entries-told (Judged raced strands english hebrew) c B L left =
-        let L-is : L ≡ enteredBelow (pairsIn input job) L₀ (job .records) = rw ok at (left .1) in
-        let few = below-at-most (pairsIn input job) (job .records) in
+        let pairs = pairsIn input job in
+        let L-is : L ≡ enteredBelow pairs L₀ (job .records) = rw ok at (left .1) in
+        let few = below-at-most pairs (job .records) in
         let fits = accepted-fits input job ok in
-        let raced-is = c .0 in (
-          (omega arith, rw (L-is, raced-is) (entries-within (pairsIn input job) L₀ (job .records) (c .1) (4 * job .events) pair-within)),
-          rw (L-is, raced-is, entries-are-pairs (pairsIn input job) L₀ (job .records) (c .1) (eventsFrom input (job .start) (job .events)) (job .records) (omega arith)),
+        let lines = entries-are-pairs pairs L₀ (job .records) (c .1) (eventsFrom input (job .start) (job .events)) (job .records) (omega arith) in (
+          (omega arith, rw (L-is, c .0) (entries-within pairs L₀ (job .records) (c .1) (4 * job .events) pair-within)),
+          rw (L-is, c .0, lines),
         )
 
     -- the answer a, and what it leaves
-    module _ (a : Answer) (judged : a ≡ recordsOf input (job .events) B₀ L₀) (B : Buffers) (L : Lists) (left : Leaves a input (job .events) B₀ L₀ B L) where
+    module _ (a : Answer) (judged : a ≡ recordsOf input (job .events) B₀ L₀) (B : Buffers) (L : Lists)
+        (left : Leaves a input (job .events) B₀ L₀ B L) where
       all-judged : a ≡ answerOf input B₀ L₀
       all-judged = judged ∙ rw ok
 
@@ -123,21 +130,15 @@ module _ (input : List ℕ) (job : Job) (ok : checkOf input ≡ Accepted job) wh
           let count : job .events ≡ eventCount (checkOf input) = rw ok in
           rw (← all-judged, ← count) left
 
-      told : AnswerWithin a (4 * job .events) L
-          × (answerText a (entriesText (eventsFrom input (job .start) (job .events)) L (numbersOf a .raced)) (take (job .start) input)
-          ≡ answerText a (pairLines (eventsFrom input (job .start) (job .events)) (pairsIn input job) (job .records)) (take (job .start) input))
-      told = entries-told a (subst Counted (sym judged) counted) B L left
-
-      -- of the events as the part that the code works out
-      part-is : take (job .start + 4 * job .events - job .start) (drop (job .start) input) ≡ eventsFrom input (job .start) (job .events)
+      -- with the events as the part that the code works out
+      part-is : partFrom input job ≡ eventsFrom input (job .start) (job .events)
       part-is = part-same input job ok ∙ rw ok
 
-      pub answer-there : AnswerWithin a (length (take (job .start + 4 * job .events - job .start) (drop (job .start) input))) L
+      pub answer-there : AnswerWithin a (length (partFrom input job)) L
       answer-there =
           let size : length (eventsFrom input (job .start) (job .events)) ≡ 4 * job .events = rw ok at (events-size input) in
-          rw (part-is, size) (told .0)
+          rw (part-is, size) (entries-told a (subst Counted (sym judged) counted) B L left .0)
 
-      pub text-is : answerText a (entriesText (take (job .start + 4 * job .events - job .start) (drop (job .start) input)) L (numbersOf a .raced)) (take (job .start) input)
-          ≡ linesOf input B₀ L₀
+      pub text-is : listedText a (partFrom input job) L (take (job .start) input) ≡ linesOf input B₀ L₀
       unfolding linesOf
-      text-is = rw part-is (told .1 ∙ rw (all-judged, ok))
+      text-is = rw part-is (entries-told a (subst Counted (sym judged) counted) B L left .1 ∙ rw (all-judged, ok))

@@ -1,5 +1,5 @@
 -- The lines that the program prints, byte by byte, as a function of the input's bytes; and what `lines` gives and leaves.
-use Prim.Native.Nat.{ℕ, _≤_, _<_}
+use Prim.Native.Nat.{ℕ, _<_}
 use mathlib.Core.Path.{_≡_}
 use mathlib.Core.Bool.{cond}
 use mathlib.Core.List.{List, _++_}

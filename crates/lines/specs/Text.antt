@@ -8,6 +8,7 @@ use Rattle.jobfile.specs.Trace.{eventAt}
 use Rattle.jobfile.specs.Events.{accessOf}
 use Rattle.races.specs.Records.{Pair, no-pair, pair}
 use Rattle.per_record.specs.Lists.{Lists, LongEnough}
+use Rattle.per_record.specs.Answers.{numbersOf}
 use Rattle.per_record.specs.declared.Answer.{Answer}
 use Rattle.per_record.specs.declared.Answer.the-variants.{Judged, Refused}
 use Rattle.line.specs.Text.{ascii, digitsOf, pairText, kindsText, countsText, nameText, cleanText, refusalText}
@@ -46,6 +47,10 @@ unfoldable pub entriesText : List ℕ → Lists → ℕ → List ℕ
 entriesText events L zero = []
 entriesText events L (suc n) =
     entriesText events L n ++ entryText events (getD (L .records) n 0) (getD (L .firsts) n 0) (getD (L .seconds) n 0)
+
+-- the text of an answer with the lines of the entries that it counts
+abbrev pub listedText : Answer → List ℕ → Lists → List ℕ → List ℕ
+listedText a events L name = answerText a (entriesText events L (numbersOf a .raced)) name
 
 -- the first n entries are there, and the events of each are within so many bytes of events
 pub record EntriesWithin (room : ℕ) (L : Lists) (n : ℕ) : Type 0 where

@@ -3,9 +3,8 @@ ghost use Prim.Native.Nat.{_+_, _*_, _≤_};
 ghost use lib.ListN.{length};
 ghost use Rattle.jobfile.specs.Lent.{was, is};
 ghost use Rattle.bytes_at.specs.Put.{Put};
-ghost use Rattle.per_record.specs.Answers.{numbersOf};
 ghost use Rattle.per_record.specs.Lists.{lists, listsBefore};
-ghost use Rattle.lines.specs.Text.{entryText, entriesText, racedText, answerText, EntriesWithin, AnswerWithin};
+ghost use Rattle.lines.specs.Text.{entryText, entriesText, racedText, listedText, EntriesWithin, AnswerWithin};
 use bytes_at::put;
 use per_record::Answer;
 use races::wide;
@@ -24,7 +23,7 @@ pub fn answer(
     requires { ⌜ 397495 ≤ length (now out) ⌝ }
     requires { ⌜ length (now name) ≤ 64 ⌝ }
     requires { ⌜ AnswerWithin answer (length (now events)) (lists records firsts seconds) ⌝ }
-    ensures { λ r. ⌜ Put (was out) 0 (answerText answer (entriesText (was events) (listsBefore records firsts seconds) (numbersOf answer .raced)) (was name)) r (is out) ⌝ }
+    ensures { λ r. ⌜ Put (was out) 0 (listedText answer (was events) (listsBefore records firsts seconds) (was name)) r (is out) ⌝ }
 {
     match answer {
         Answer::Judged {

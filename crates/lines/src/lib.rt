@@ -40,9 +40,7 @@ pub fn lines(
     if out.len() < ROOM {
         return Lined::Short;
     }
-    Lined::Bytes(text_of(
-        out, input, labels, links, places, records, firsts, seconds,
-    ))
+    Lined::Bytes(text_of(out, input, labels, links, places, records, firsts, seconds))
 }
 
 // The text at the start of a buffer that has room for every text. The events are walked twice: by the check, and by judging.
@@ -63,7 +61,15 @@ fn text_of(
     match jobfile::check(input) {
         Checked::Refused(r) => line::refusal(out, r),
         Checked::Accepted(job) => judged(
-            out, input, job, labels, links, places, records, firsts, seconds,
+            out,
+            input,
+            job,
+            labels,
+            links,
+            places,
+            records,
+            firsts,
+            seconds,
         ),
     }
 }
@@ -90,7 +96,15 @@ fn judged(
     let events = &input[start..end];
     let name = &input[..start];
     let answer = per_record::judge_job(
-        input, job, job.events, labels, links, places, records, firsts, seconds,
+        input,
+        job,
+        job.events,
+        labels,
+        links,
+        places,
+        records,
+        firsts,
+        seconds,
     );
     answers::answer(out, answer, events, name, records, firsts, seconds)
 }

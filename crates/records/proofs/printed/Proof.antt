@@ -59,11 +59,10 @@ returns-2 c =
     let lined = c .before .before .before .before .before .before .before .before .before .before .before in
     let start = lined .before .before .before .before .before .before .before .before .before .before .before in
     let input = start .args .input .now in
-    let told = c .before .lined .given .1 in (
-      rw (lines-printed input (omega arith))
-          (text-put (linesOf input paperBuffers paperLists) (start .args .out .now) _ _ (sym told ∙ lined .lines .ensures .0 .answer) (lined .lines .ensures .0 .output)),
-      rw told at (lined .lines .ensures .1),
-    )
+    let told = c .before .lined .given .1 in
+    let gives = lined .lines .ensures .0 in
+    let there = text-put (linesOf input paperBuffers paperLists) (start .args .out .now) _ _ (sym told ∙ gives .answer) (gives .output) in
+    (rw (lines-printed input (omega arith)) there, rw told at (lined .lines .ensures .1))
 
 same-length-3 : tie.Need-same-length-3
 same-length-3 c = search needs

@@ -12,7 +12,10 @@ use Rattle.lines.proofs.answers.entries.Tie as tie
 
 abbrev Inv-loop : tie.InvT-loop
 Inv-loop out₀ events records firsts seconds n at₀ i₀ out at i =
-    (i ≤ n) × (at ≤ 97 * i) × (length out ≡ length out₀) × Put out₀ 0 (entriesText events (record { records = records; firsts = firsts; seconds = seconds }) i) at out
+    (i ≤ n)
+    × (at ≤ 97 * i)
+    × (length out ≡ length out₀)
+    × Put out₀ 0 (entriesText events (record { records = records; firsts = firsts; seconds = seconds }) i) at out
 
 abbrev μ-loop : tie.MeasureT-loop
 μ-loop out₀ events records firsts seconds n at₀ i₀ out at i = n - i
@@ -53,7 +56,9 @@ entry-requires c κs =
     let first = second .before .before in
     let loop = first .before .before .before .before .before .before in
     let start = loop .before .before .before .before .before .before in
-    (omega arith, (omega (arith, first .wide2 .ensures, start .pre .1 .first-within (loop .loop .i) (omega arith)), omega (arith, second .wide3 .ensures, start .pre .1 .second-within (loop .loop .i) (omega arith))))
+    let one = start .pre .1 .first-within (loop .loop .i) (omega arith) in
+    let two = start .pre .1 .second-within (loop .loop .i) (omega arith) in
+    (omega arith, (omega (arith, first .wide2 .ensures, one), omega (arith, second .wide3 .ensures, two)))
 
 add-i : tie.Need-add-i Inv-loop μ-loop
 add-i c = search needs
