@@ -1,7 +1,6 @@
 -- The parts of an input that its line speaks of: the events are as many as are judged, a pair is among them, and the name is short.
 -- Assumes nothing.
-use Prim.Native.Nat.{ℕ, _+_, _*_, _-_, _≤_}
-use native.Mathlib.Nat.{add-sub-cancel-left}
+use Prim.Native.Nat.{ℕ, _*_, _≤_}
 use native.Mathlib.Omega.{arith}
 use mathlib.Core.Path.{_≡_, refl, _∙_}
 use mathlib.Core.Bool.{Bool, true, false, cond}
@@ -22,6 +21,7 @@ use Rattle.races.specs.Verdict.{verdict}
 use Rattle.races.proofs.Named.{verdict-race}
 use Rattle.judging.specs.Answers.{answerWith, judgedOf, judgeFault, afterCheck, judgeOf}
 use Rattle.judging.specs.Leaves.{Leaves}
+use Rattle.judging.proofs.Files.{partOf, part-same}
 use Rattle.judging.specs.declared.Answer.{Answer}
 use Rattle.judging.specs.declared.Answer.the-variants.{Refused}
 use Rattle.taking.specs.Buffers.{Buffers}
@@ -72,26 +72,24 @@ leaves-none input labels links places r e B = rw (refused-line input labels link
 pub start-short : (input : List ℕ) (job : Job) → checkOf input ≡ Accepted job → length (take (job .start) input) ≤ 64
 start-short input job ok = rw length-take (omega (arith, accepted-fits input job ok .0))
 
--- the events as the part from the start to the end that the code works out
-pub part-same : (input : List ℕ) (job : Job) → checkOf input ≡ Accepted job
-    → take (job .start + 4 * job .events - job .start) (drop (job .start) input) ≡ eventPart input
-part-same input job ok = rw (ok, add-sub-cancel-left (job .start) (4 * job .events))
-
 -- an input that it accepts: what is known of the answer a for all its events
 module _ (input : List ℕ) (labels links places : ℕ) (job : Job) (ok : checkOf input ≡ Accepted job) (a : Answer)
     (judged : a ≡ judgeOf input (job .events) labels links places) where
   pub all-judged : a ≡ answerOf input labels links places
   all-judged = judged ∙ rw ok
 
-  pub pair-there : PairWithin a (length (take (job .start + 4 * job .events - job .start) (drop (job .start) input)))
-  pair-there = rw (all-judged, part-same input job ok, events-size input) (pair-within input labels links places)
+  -- the events as the part that the code works out
+  part-all : partOf input job ≡ eventPart input
+  part-all = part-same input job ∙ rw ok
 
-  pub line-is : answerText a (take (job .start + 4 * job .events - job .start) (drop (job .start) input)) (take (job .start) input)
-      ≡ lineOf input labels links places
+  pub pair-there : PairWithin a (length (partOf input job))
+  pair-there = rw (all-judged, part-all, events-size input) (pair-within input labels links places)
+
+  pub line-is : answerText a (partOf input job) (take (job .start) input) ≡ lineOf input labels links places
   unfolding lineOf
   line-is =
       let name : take (job .start) input ≡ take (nameLength (checkOf input)) input = rw ok in
-      rw (all-judged, part-same input job ok, name)
+      rw (all-judged, part-all, name)
 
   pub leaves-all : (B₀ B : Buffers) → Leaves a input (job .events) B₀ B
       → Leaves (answerOf input labels links places) input (eventCount (checkOf input)) B₀ B

@@ -1,63 +1,52 @@
 -- What is known of the answer about all events of an input: the entries that it counts are there and their events too, its text is the
 -- input's, and so is what is left. Assumes nothing.
-use Prim.Native.Nat.{ℕ, _+_, _*_, _-_, _≤_}
+use Prim.Native.Nat.{ℕ, _+_, _*_, _≤_}
 use native.Mathlib.Omega.{arith}
 use mathlib.Core.Path.{_≡_, refl, sym, subst, _∙_}
-use mathlib.Core.Bool.{Bool, true, false, cond, false≢true}
+use mathlib.Core.Bool.{Bool, true, false, cond}
 use mathlib.Core.List.{List}
-use lib.Dec.{eqb, ltb}
-use lib.ListN.{length, take, drop}
-use borrow.Author.Tests.{eqb-true, eqb-false, ltb-false}
+use lib.Dec.{eqb}
+use lib.ListN.{length, take}
+use borrow.Author.Tests.{eqb-true, eqb-false}
 use Rattle.jobfile.specs.Refusals.{refusalOf}
-use Rattle.jobfile.specs.Trace.{eventAt, moves}
+use Rattle.jobfile.specs.Trace.{eventAt}
 use Rattle.jobfile.specs.File.{checkOf, eventCount, eventsFrom}
 use Rattle.jobfile.specs.declared.Job.{Job}
 use Rattle.jobfile.specs.declared.refusal.Refusal.{Refusal}
 use Rattle.jobfile.specs.declared.Checked.the-variants.{Accepted, Refused as Unread}
 use Rattle.jobfile.proofs.Checking.{accepted-fits, accepted}
-use Rattle.relation.specs.Parallel.{Parallel}
 use Rattle.races.specs.Records.{Pair, pair}
-use Rattle.races.specs.Mark.{rules, eventTrace}
-use Rattle.races.proofs.Records.{pair-is}
-use Rattle.races.proofs.Events.{lawful, fit, tied}
+use Rattle.races.proofs.NamedOn.{pair-named}
 use Rattle.bytes_at.specs.Put.{Put}
 use Rattle.taking.specs.Buffers.{Buffers}
 use Rattle.judging.specs.Answers.{judgeFault}
+use Rattle.judging.proofs.Files.{partOf, part-same}
 use Rattle.per_record.specs.Lists.{Lists, LongEnough}
 use Rattle.per_record.specs.Listed.{pairIn, pairsBelow, enteredBelow}
 use Rattle.per_record.specs.Answers.{isShort, recordsFault, faultWith, judgedAll, recordsOf}
 use Rattle.per_record.specs.Leaves.{Leaves}
 use Rattle.per_record.specs.declared.Answer.{Answer}
 use Rattle.per_record.specs.declared.Answer.the-variants.{Judged, Refused}
+use Rattle.per_record.proofs.Faults.{long-enough}
 use Rattle.per_record.proofs.Listing.{below-at-most}
 use Rattle.line.specs.Text.{refusalText}
-use Rattle.line.proofs.Parts.{part-same, events-size}
+use Rattle.line.proofs.Parts.{events-size}
 use Rattle.lines.specs.Text.{pairLines, answerText, listedText, AnswerWithin}
 use Rattle.lines.specs.Lines.{answerOf, linesOf}
 use Rattle.lines.proofs.Entries.{entries-are-pairs, entries-within}
 
-none-true : (a b c : Bool) → cond a true (cond b true c) ≡ false → (a ≡ false) × (b ≡ false) × (c ≡ false)
-none-true true b c e = absurd (false≢true (sym e))
-none-true false true c e = absurd (false≢true (sym e))
-none-true false false c e = (refl, refl, e)
-
+-- where no fault is told, no list is shorter than the record count
 not-short : (fault : ℕ) (short none : Bool) → eqb fault 0 ≡ none → cond none (cond short 16 0) fault ≡ 0 → short ≡ false
 not-short fault true true e f = absurd (omega arith)
 not-short fault false true e f = refl
 not-short fault short false e f = absurd (eqb-false fault 0 e f)
 
--- where no fault is told, no list is shorter than the record count
-long-enough : (events strands count k : ℕ) (B : Buffers) (L : Lists) → faultWith events strands count k B L ≡ 0 → LongEnough count L
-unfolding recordsFault isShort
-long-enough events strands count k B L e =
+all-long : (events strands count k : ℕ) (B : Buffers) (L : Lists) → faultWith events strands count k B L ≡ 0 → LongEnough count L
+unfolding recordsFault
+all-long events strands count k B L e =
     let fault = judgeFault events strands k (length (B .labels)) (length (B .links)) (length (B .places)) in
-    let short = not-short fault (isShort count (length (L .records)) (length (L .firsts)) (length (L .seconds))) (eqb fault 0) refl e in
-    let each = none-true (ltb (length (L .records)) count) (ltb (length (L .firsts)) count) (ltb (length (L .seconds)) count) short in
-    record {
-      records = ltb-false (length (L .records)) count (each .0);
-      firsts = ltb-false (length (L .firsts)) count (each .1);
-      seconds = ltb-false (length (L .seconds)) count (each .2);
-    }
+    let short = isShort count (length (L .records)) (length (L .firsts)) (length (L .seconds)) in
+    long-enough count L (sym (not-short fault short (eqb fault 0) refl e))
 
 -- an input that the check refuses: its text is the refusal's, and nothing is stored
 module _ (input : List ℕ) (B : Buffers) (L : Lists) (r : Refusal) (unread : checkOf input ≡ Unread r) where
@@ -73,18 +62,12 @@ module _ (input : List ℕ) (B : Buffers) (L : Lists) (r : Refusal) (unread : ch
 abbrev pairsIn : List ℕ → Job → ℕ → Pair
 pairsIn input job = pairIn (eventAt (eventsFrom input (job .start) (job .events))) (job .events)
 
--- the event part, from where the job says it starts to where it ends
-abbrev pub partFrom : List ℕ → Job → List ℕ
-partFrom input job = take (job .start + 4 * job .events - job .start) (drop (job .start) input)
-
 module _ (input : List ℕ) (job : Job) (ok : checkOf input ≡ Accepted job) where
   -- both events of a pair are among the events
   pair-within : (r i j : ℕ) → pairsIn input job r ≡ pair i j → (4 * i + 4 ≤ 4 * job .events) × (4 * j + 4 ≤ 4 * job .events)
   pair-within r i j e =
       let ev = eventAt (eventsFrom input (job .start) (job .events)) in
-      let k = job .events in
-      let tie = tied ev k (λ m l. accepted input job ok .rooted m l) in
-      let P = pair-is rules (eventTrace ev) (lawful ev) (fit ev) (Parallel (moves ev)) k tie r i j .0 e in
+      let P = pair-named ev (job .events) (λ m l. accepted input job ok .rooted m l) i j r .0 e in
       (omega (arith, P .within, P .is-race .earlier), omega (arith, P .within))
 
   module _ (B₀ : Buffers) (L₀ : Lists) where
@@ -100,7 +83,7 @@ module _ (input : List ℕ) (job : Job) (ok : checkOf input ≡ Accepted job) wh
         by : (none : Bool) → eqb (faultWith (job .events) (job .strands) (job .records) (job .events) B₀ L₀) 0 ≡ none
             → Counted (cond none (judgedAll (eventAt (eventsFrom input (job .start) (job .events))) (job .events) (job .records))
             (Refused (refusalOf (faultWith (job .events) (job .strands) (job .records) (job .events) B₀ L₀) 0)))
-        by true e = (refl, long-enough _ _ _ _ B₀ L₀ (eqb-true _ 0 e))
+        by true e = (refl, all-long _ _ _ _ B₀ L₀ (eqb-true _ 0 e))
         by false e = tt
 
     -- the entries of the answer are there, and the lines of them are those of the raced records
@@ -131,14 +114,11 @@ module _ (input : List ℕ) (job : Job) (ok : checkOf input ≡ Accepted job) wh
           rw (← all-judged, ← count) left
 
       -- with the events as the part that the code works out
-      part-is : partFrom input job ≡ eventsFrom input (job .start) (job .events)
-      part-is = part-same input job ok ∙ rw ok
-
-      pub answer-there : AnswerWithin a (length (partFrom input job)) L
+      pub answer-there : AnswerWithin a (length (partOf input job)) L
       answer-there =
           let size : length (eventsFrom input (job .start) (job .events)) ≡ 4 * job .events = rw ok at (events-size input) in
-          rw (part-is, size) (entries-told a (subst Counted (sym judged) counted) B L left .0)
+          rw (part-same input job, size) (entries-told a (subst Counted (sym judged) counted) B L left .0)
 
-      pub text-is : listedText a (partFrom input job) L (take (job .start) input) ≡ linesOf input B₀ L₀
+      pub text-is : listedText a (partOf input job) L (take (job .start) input) ≡ linesOf input B₀ L₀
       unfolding linesOf
-      text-is = rw part-is (entries-told a (subst Counted (sym judged) counted) B L left .1 ∙ rw (all-judged, ok))
+      text-is = rw (part-same input job) (entries-told a (subst Counted (sym judged) counted) B L left .1 ∙ rw (all-judged, ok))
