@@ -27,6 +27,7 @@ answerOf input B L = recordsOf input (eventCount (checkOf input)) B L
 abbrev pub racesOf : List ℕ → List ℕ
 racesOf input = pairLines (eventPart input) (pairIn (eventAt (eventPart input)) (eventCount (checkOf input))) (recordCount (checkOf input))
 
+-- the whole text
 unfoldable pub linesOf : List ℕ → Buffers → Lists → List ℕ
 linesOf input B L = answerText (answerOf input B L) (racesOf input) (take (nameLength (checkOf input)) input)
 
