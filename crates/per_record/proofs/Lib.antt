@@ -16,3 +16,5 @@ pub mod Files
 pub mod Promise
 pub mod Demands
 pub mod Starred
+pub mod OneTurn
+pub mod OneOrder

@@ -68,11 +68,11 @@ module _ (pairs : ℕ → Pair) where
       go (yes g) ih = omega (arith, ih g, below-step r)
       go (no g) ih = let e : q ≡ suc r = omega arith in rw e (omega arith)
 
-  below-pair : (r i j : ℕ) → pairs r ≡ pair i j → pairsBelow pairs (suc r) ≡ suc (pairsBelow pairs r)
+  pub below-pair : (r i j : ℕ) → pairs r ≡ pair i j → pairsBelow pairs (suc r) ≡ suc (pairsBelow pairs r)
   unfolding pairsBelow
   below-pair r i j e = rw e (omega arith)
 
-  below-none : (r : ℕ) → pairs r ≡ no-pair → pairsBelow pairs (suc r) ≡ pairsBelow pairs r
+  pub below-none : (r : ℕ) → pairs r ≡ no-pair → pairsBelow pairs (suc r) ≡ pairsBelow pairs r
   unfolding pairsBelow
   below-none r e = rw e (omega arith)
 

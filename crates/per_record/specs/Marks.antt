@@ -29,7 +29,7 @@ kindIn mark = cond (ltb mark 1000000) Write Read
 unfoldable pub secondIn : ℕ → ℕ
 secondIn mark = cond (ltb mark 1000000) mark (mark - 1000000)
 
--- the mark of record r, by its second; 4,294,967,295 if it has none
+-- the mark of record r, by its second and what that finds; 4,294,967,295 if it has none
 module _ (ev : ℕ → Event) where
   abbrev pub markAt : ℕ → Option ℕ → ℕ
   markAt r none = 4294967295
@@ -49,7 +49,7 @@ ofMarked M (To kind r) = not (eqb (getD M r 0) 4294967295)
 abbrev pub frozenAt : List ℕ → List ℕ → ℕ → Bool
 frozenAt part M i = ofMarked M (accessOf (eventAt part i))
 
--- the records that the events have are marked or not: each has its entry
+-- the record of event i, if it has one, has an entry among the marks
 abbrev pub HasMark : List ℕ → ℕ → Type 0
 HasMark part i = (kind : Kind) (r : ℕ) → accessOf (eventAt part i) ≡ To kind r → r < 4096
 

@@ -311,6 +311,7 @@ fn enter(
     n + 1
 }
 
+// Which kind of place holds the first, by a record's mark.
 fn kind_in(mark: u32) -> Kind
     ensures { λ r. ⌜ r ≡ kindIn mark ⌝ }
 {
@@ -320,6 +321,7 @@ fn kind_in(mark: u32) -> Kind
     Kind::Read
 }
 
+// Which event was the second, by a record's mark.
 fn second_in(mark: u32) -> u32
     ensures { λ r. ⌜ r ≡ secondIn mark ⌝ }
 {
