@@ -1,4 +1,5 @@
-// One event of a run: what an access finds at its record's places, by the labels, and the strand that any other event may begin.
+// One event of a run: what an access finds at its record's places, by the labels, and the strand that any other event may begin. And the
+// run of such events up to the next race.
 ghost use mathlib.Core.Path.{_≡_};
 ghost use Prim.Native.Nat.{_+_, _*_, _<_, _≤_};
 ghost use lib.ListN.{length};
