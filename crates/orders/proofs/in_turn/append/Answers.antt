@@ -1,0 +1,35 @@
+-- `orders::in_turn::append` meets its contract: no strand comes after the last, and either branch leaves the labels and the count of `placed`
+-- and `placings`. Assumes nothing.
+use mathlib.Core.Path.{sym, ◌∙◌}
+use lib.ListN.{length-set}
+use Rattle.orders.proofs.InTurn.{last_held, last_below, appended_between, appended_respaced}
+use Rattle.orders.proofs.in_turn.append.Goals as goal
+
+pub link-requires-clause-next_value : goal.link-requires-clause-next_value
+link-requires-clause-next_value c =
+    sym (last_held _ _ _ _ _ _ c.requires)
+
+pub overflow_sub-gap : goal.overflow_sub-gap
+overflow_sub-gap c =
+    last_below _ _ _ _ _ _ c.requires
+
+pub returns-then-gap-ge2-clause-inserted : goal.returns-then-gap-ge2-clause-inserted
+returns-then-gap-ge2-clause-inserted c =
+    rw c.link.ensures (appended_between _ _ _ _ _ _ c.requires c.if-gap-ge2.true).0
+
+pub returns-then-gap-ge2-clause-appends : goal.returns-then-gap-ge2-clause-appends
+returns-then-gap-ge2-clause-appends c =
+    (appended_between _ _ _ _ _ _ c.requires c.if-gap-ge2.true).1
+
+pub shape_of-labels : goal.shape_of-labels
+shape_of-labels c =
+    c.respace-changed.auto.labels ∙ simp length-set
+
+pub returns-clause-inserted : goal.returns-clause-inserted
+returns-clause-inserted c =
+    rw (c.link.ensures, c.respace-changed.ensures.labels_after, c.respace-changed.ensures.value)
+    (appended_respaced _ _ _ _ _ _ c.requires c.if-gap-ge2.false).0
+
+pub returns-clause-appends : goal.returns-clause-appends
+returns-clause-appends c =
+    (appended_respaced _ _ _ _ _ _ c.requires c.if-gap-ge2.false).1
