@@ -63,7 +63,7 @@ pub fn judge_job(
     places: &mut [u32],
 ) -> Answer
     requires { check_of file.now ≡ Accepted job }
-    ensures { JudgeGives file.now k (before labels links places) result (after labels links places) }
+    ensures judged { JudgeGives file.now k (before labels links places) result (after labels links places) }
 {
     let fault = judge_fault(job, k, labels.len(), links.len(), places.len());
     if fault != 0 {
