@@ -12,16 +12,16 @@ loop-j-init c =
 
 pub insert-step-requires : goal.insert-step-requires
 insert-step-requires c =
-    rw c.point.ensures (turn_marked _ _ _ _ _ _ _ _ c.loop-j.invariant.0 c.loop-j-test.true)
+    rw c.point.ensures (turn_marked _ _ _ _ _ _ _ _ c.loop-j.invariant.0 (omega arith))
 
 pub overflow_add-changed : goal.overflow_add-changed
 overflow_add-changed c =
-    omega (arith, turn_few _ _ _ _ _ _ _ _ c.loop-j.invariant.0 c.loop-j-test.true _ _ _ (rw c.point.ensures at c.insert-step.ensures.inserted))
+    omega (arith, turn_few _ _ _ _ _ _ _ _ c.loop-j.invariant.0 (omega arith) _ _ _ (rw c.point.ensures at c.insert-step.ensures.inserted))
 
 pub loop-j-preserved : goal.loop-j-preserved
 loop-j-preserved c =
     let i = c.insert-step in (
-      turn_on _ _ _ _ _ _ _ _ c.loop-j.invariant.0 c.loop-j-test.true _ _ _ (rw c.point.ensures at i.ensures.inserted) _ (rw c.point.ensures at i.ensures.settles)
+      turn_on _ _ _ _ _ _ _ _ c.loop-j.invariant.0 (omega arith) _ _ _ (rw c.point.ensures at i.ensures.inserted) _ (rw c.point.ensures at i.ensures.settles)
           i.auto.labels i.auto.links,
       i.auto.labels ∙ c.loop-j.invariant.1,
       i.auto.links ∙ c.loop-j.invariant.2,
