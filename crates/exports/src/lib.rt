@@ -17,7 +17,7 @@ use writing::Written;
 // Reads a file: refusal, event, name's length, events' start, events' length, records.
 #[unsafe(no_mangle)]
 pub extern "C" fn rz_read(file: &[u8], answer: &mut [u64; 6])
-    ensures { is answer ≡ read_numbers (check_of (was file)) }
+    ensures { is answer ≡ read_numbers (check_of file.now) }
 {
     *answer = read_numbers(jobfile::check(file));
 }
@@ -31,7 +31,7 @@ pub extern "C" fn rz_write(
     out: &mut [u8],
     answer: &mut [u64; 3],
 )
-    ensures { WriteCallGives (was name) records (was events) (was out) (is answer) (is out) }
+    ensures { WriteCallGives name.now records events.now (was out) (is answer) (is out) }
 {
     *answer = write_numbers(writing::write(name, records as usize, events, out));
 }
@@ -39,7 +39,7 @@ pub extern "C" fn rz_write(
 // Asks about events i and j of a file: refusal, event, answer.
 #[unsafe(no_mangle)]
 pub extern "C" fn rz_question(file: &[u8], i: u64, j: u64, answer: &mut [u64; 3])
-    ensures { is answer ≡ question_numbers (question_of (was file) i j) }
+    ensures { is answer ≡ question_numbers (question_of file.now i j) }
 {
     *answer = question_numbers(relation::question(file, i as usize, j as usize));
 }
@@ -55,7 +55,7 @@ pub extern "C" fn rz_judge(
     places: &mut [u32],
     answer: &mut [u64; 9],
 )
-    ensures { JudgeCallGives (was file) k (before labels links places) (is answer) (after labels links places) }
+    ensures { JudgeCallGives file.now k (before labels links places) (is answer) (after labels links places) }
 {
     *answer = judge_numbers(judging::judge(file, k as usize, labels, links, places));
 }
@@ -74,7 +74,7 @@ pub extern "C" fn rz_judge_records(
     seconds: &mut [u32],
     answer: &mut [u64; 6],
 )
-    ensures { RecordsCallGives (was file) k (before labels links places) (lists_before records firsts seconds) (is answer) (after labels links places) (lists_after records firsts seconds) }
+    ensures { RecordsCallGives file.now k (before labels links places) (lists_before records firsts seconds) (is answer) (after labels links places) (lists_after records firsts seconds) }
 {
     *answer = records_numbers(per_record::judge(
         file, k as usize, labels, links, places, records, firsts, seconds,

@@ -7,7 +7,7 @@ ghost use Rattle.jobfile.specs.Trace.{event_at};
 use crate::event::Event;
 
 // What four bytes are read as: an event, or the number of a refusal.
-#[derive(Drop)]
+#[derive(Clone, Copy)]
 pub enum Decoded {
     Event(Event),
     Refused(u32),
@@ -55,7 +55,7 @@ fn bare(kind: u16, number: u16, this: u16) -> bool
 // requires: the four bytes are there; the callers walk a part that holds whole events.
 pub fn decode(part: &[u8], at: usize) -> Decoded
     requires { at + 4 ≤ length part.now }
-    ensures value { result ≡ decode_at (was part) at }
+    ensures value { result ≡ decode_at part.now at }
     ensures decode_fits { DecodeFits result }
 {
     event_of(
@@ -78,7 +78,7 @@ pub fn number_of(d: Decoded) -> u32
 // requires: the event's four bytes are there; the callers walk a part that holds whole events.
 pub fn event_at(part: &[u8], n: usize) -> Event
     requires { 4 * n + 4 ≤ length part.now }
-    ensures { result ≡ event_at (was part) n }
+    ensures { result ≡ event_at part.now n }
 {
     match decode(part, 4 * n) {
         Decoded::Event(e) => e,

@@ -21,7 +21,7 @@ pub use tasks::{Traced, trace};
 
 // What an accepted file gives: where the events start, which is the name's length, how many they
 // are, the record count, and how many strands begin.
-#[derive(Drop)]
+#[derive(Clone, Copy)]
 pub struct Job {
     pub start: usize,
     pub events: usize,
@@ -29,7 +29,7 @@ pub struct Job {
     pub strands: usize,
 }
 
-#[derive(Drop)]
+#[derive(Clone, Copy)]
 pub enum Checked {
     Accepted(Job),
     Refused(Refusal),
@@ -37,7 +37,7 @@ pub enum Checked {
 
 // The check of a whole file: refusals 1 to 13.
 pub fn check(file: &[u8]) -> Checked
-    ensures { CheckGives (was file) result }
+    ensures { CheckGives file.now result }
 {
     match trailer::read_head(file) {
         trailer::Head::Refused(k) => Checked::Refused(refuse(k, 0)),
@@ -62,7 +62,7 @@ pub fn check(file: &[u8]) -> Checked
 
 // The name: the front part of the caller's own file, or an empty part of it where the file is refused.
 pub fn name<'a>(file: &'a [u8]) -> &'a [u8]
-    ensures { Part result file.entry 0 (name_length (check_of (was file))) }
+    ensures { Part result file.entry 0 (name_length (check_of file.now)) }
 {
     match check(file) {
         Checked::Accepted(j) => {
@@ -76,7 +76,7 @@ pub fn name<'a>(file: &'a [u8]) -> &'a [u8]
 // The events: the part of the caller's own file that starts mid-file, or an empty part of it where
 // the file is refused.
 pub fn events<'a>(file: &'a [u8]) -> &'a [u8]
-    ensures { Part result file.entry (name_length (check_of (was file))) (4 * event_count (check_of (was file))) }
+    ensures { Part result file.entry (name_length (check_of file.now)) (4 * event_count (check_of file.now)) }
 {
     match check(file) {
         Checked::Accepted(j) => {

@@ -18,7 +18,7 @@ use limits::{LABELS, LINKS, NO_STRAND, OPEN_TASKS, PLACES, STRANDS};
 use taking::until_race;
 
 // Clean or race, with the strands begun and both label counts; or a refusal.
-#[derive(Drop)]
+#[derive(Clone, Copy)]
 pub enum Answer {
     Clean {
         strands: usize,
@@ -44,7 +44,7 @@ pub fn judge(
     links: &mut [u16],
     places: &mut [u32],
 ) -> Answer
-    ensures { JudgeGives (was file) k (before labels links places) result (after labels links places) }
+    ensures { JudgeGives file.now k (before labels links places) result (after labels links places) }
 {
     match jobfile::check(file) {
         Checked::Refused(r) => Answer::Refused(r),
@@ -63,7 +63,7 @@ pub fn judge_job(
     places: &mut [u32],
 ) -> Answer
     requires { check_of file.now ≡ Accepted job }
-    ensures { JudgeGives (was file) k (before labels links places) result (after labels links places) }
+    ensures judged { JudgeGives file.now k (before labels links places) result (after labels links places) }
 {
     let fault = judge_fault(job, k, labels.len(), links.len(), places.len());
     if fault != 0 {
@@ -110,8 +110,8 @@ fn run(
 ) -> Answer
     requires run { Run part.now records k }
     requires in_bounds { (8192 ≤ length labels.old) × (16384 ≤ length links.old) × (16384 ≤ length places.old) }
-    ensures value { result ≡ judged_of (event_at (was part)) k }
-    ensures shows { Shows (event_at (was part)) (stop_at (event_at (was part)) k) records (before labels links places) (after labels links places) }
+    ensures value { result ≡ judged_of (event_at part.now) k }
+    ensures shows { Shows (event_at part.now) (stop_at (event_at part.now) k) records (before labels links places) (after labels links places) }
 {
     races::clear(places, records);
     let mut lasts = [0; OPEN_TASKS];

@@ -43,7 +43,7 @@ pub fn kinds(out: &mut [u8], at: usize, events: &[u8], first: usize, second: usi
     requires at_in_bounds { at + 9 ≤ length out.old }
     requires first_in_bounds { 4 * first + 4 ≤ length events.now }
     requires second_in_bounds { 4 * second + 4 ≤ length events.now }
-    ensures put { Put (was out) at (kinds_text (access_of (event_at (was events) first)) (access_of (event_at (was events) second))) result (is out) }
+    ensures put { Put (was out) at (kinds_text (access_of (event_at events.now first)) (access_of (event_at events.now second))) result (is out) }
     ensures upper_bound { result ≤ at + 9 }
 {
     let a = jobfile::access_of(jobfile::event_at(events, first));
@@ -67,8 +67,8 @@ pub fn counts(out: &mut [u8], at: usize, strands: usize, english: usize, hebrew:
 // requires: there is room for the name and seven bytes more.
 pub fn ending(out: &mut [u8], at: usize, name: &[u8]) -> usize
     requires { at + length name.now + 7 ≤ length out.old }
-    ensures put { Put (was out) at (name_text (was name)) result (is out) }
-    ensures upper_bound { result ≤ at + length (was name) + 7 }
+    ensures put { Put (was out) at (name_text name.now) result (is out) }
+    ensures upper_bound { result ≤ at + length name.now + 7 }
 {
     let word = put(out, at, b" name ");
     let named = put(out, word, name);
@@ -89,8 +89,8 @@ pub fn refusal(out: &mut [u8], refused: Refusal) -> usize
 // requires: there is room for the name and 98 bytes more.
 pub fn clean(out: &mut [u8], strands: usize, english: usize, hebrew: usize, name: &[u8]) -> usize
     requires { length name.now + 98 ≤ length out.old }
-    ensures put { Put (was out) 0 (clean_text strands english hebrew (was name)) result (is out) }
-    ensures upper_bound { result ≤ length (was name) + 98 }
+    ensures put { Put (was out) 0 (clean_text strands english hebrew name.now) result (is out) }
+    ensures upper_bound { result ≤ length name.now + 98 }
 {
     let a = put(out, 0, b"clean");
     let b = counts(out, a, strands, english, hebrew);
@@ -112,8 +112,8 @@ fn race(
     requires name_in_bounds { length name.now + 189 ≤ length out.old }
     requires first_in_bounds { 4 * first + 4 ≤ length events.now }
     requires second_in_bounds { 4 * second + 4 ≤ length events.now }
-    ensures put { Put (was out) 0 (race_text first second number strands english hebrew (was events) (was name)) result (is out) }
-    ensures upper_bound { result ≤ length (was name) + 189 }
+    ensures put { Put (was out) 0 (race_text first second number strands english hebrew events.now name.now) result (is out) }
+    ensures upper_bound { result ≤ length name.now + 189 }
 {
     let a = pair(out, 0, number, first, second);
     let b = kinds(out, a, events, first, second);
@@ -127,7 +127,7 @@ pub fn answer(out: &mut [u8], answer: Answer, events: &[u8], name: &[u8]) -> usi
     requires in_bounds { 256 ≤ length out.old }
     requires name_len_bound { length name.now ≤ 64 }
     requires pair_within { PairWithin answer (length events.now) }
-    ensures put { Put (was out) 0 (answer_text answer (was events) (was name)) result (is out) }
+    ensures put { Put (was out) 0 (answer_text answer events.now name.now) result (is out) }
     ensures upper_bound { result ≤ 256 }
 {
     match answer {

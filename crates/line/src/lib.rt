@@ -19,7 +19,7 @@ use jobfile::{Checked, Job};
 pub use text::field;
 
 // How many bytes were put; or that the output is too short for them.
-#[derive(Drop)]
+#[derive(Clone, Copy)]
 pub enum Lined {
     Bytes(usize),
     Short,
@@ -34,7 +34,7 @@ pub fn line(
     places: &mut [u32],
     out: &mut [u8],
 ) -> Lined
-    ensures line_gives { LineGives (was input) (before labels links places) (was out) result (after labels links places) (is out) }
+    ensures line_gives { LineGives input.now (before labels links places) (was out) result (after labels links places) (is out) }
     ensures line_fits { LineFits result (is out) }
 {
     let mut text = [0u8; 256];
@@ -52,7 +52,7 @@ fn text_of(
     places: &mut [u32],
 ) -> usize
     requires { 256 ≤ length text.old }
-    ensures { TextGives (was input) (before labels links places) (was text) result (after labels links places) (is text) }
+    ensures { TextGives input.now (before labels links places) (was text) result (after labels links places) (is text) }
 {
     match jobfile::check(input) {
         Checked::Refused(r) => answers::refusal(text, r),
@@ -72,7 +72,7 @@ fn judged(
 ) -> usize
     requires in_bounds { 256 ≤ length text.old }
     requires input_value { check_of input.now ≡ Accepted job }
-    ensures { TextGives (was input) (before labels links places) (was text) result (after labels links places) (is text) }
+    ensures { TextGives input.now (before labels links places) (was text) result (after labels links places) (is text) }
 {
     let start = job.start;
     let end = start + 4 * job.events;
@@ -86,8 +86,8 @@ fn judged(
 // requires: they are a line's at most.
 fn deliver(text: &[u8], out: &mut [u8]) -> Lined
     requires { length text.now ≤ 256 }
-    ensures value { result ≡ lined_of (was text) (length (was out)) }
-    ensures out_value { is out ≡ out_of (was text) (was out) }
+    ensures value { result ≡ lined_of text.now (length (was out)) }
+    ensures out_value { is out ≡ out_of text.now (was out) }
     ensures line_fits { LineFits result (is out) }
 {
     if out.len() < text.len() {

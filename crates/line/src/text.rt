@@ -22,8 +22,8 @@ pub fn number(out: &mut [u8], at: usize, n: usize) -> usize
 // requires: there is room for both.
 pub fn field(out: &mut [u8], at: usize, word: &[u8], n: usize) -> usize
     requires { at + length word.now + 20 ≤ length out.old }
-    ensures put { Put (was out) at (was word ++ digits_of n) result (is out) }
-    ensures upper_bound { result ≤ at + length (was word) + 20 }
+    ensures put { Put (was out) at (word.now ++ digits_of n) result (is out) }
+    ensures upper_bound { result ≤ at + length word.now + 20 }
 {
     let next = put(out, at, word);
     number(out, next, n)

@@ -2,7 +2,7 @@
 ghost use Rattle.std.specs.Prelude.{◌+◌, ◌*◌, ◌≤◌, length};
 ghost use Rattle.jobfile.specs.Lent.{was, is};
 ghost use Rattle.bytes_at.specs.Put.{Put};
-ghost use Rattle.per_record.specs.Lists.{lists, lists_before};
+ghost use Rattle.per_record.specs.Lists.{lists_of};
 ghost use Rattle.lines.specs.Text.{entry_text, entries_text, raced_text, listed_text, EntriesWithin, AnswerWithin};
 
 use bytes_at::put;
@@ -22,8 +22,8 @@ pub fn answer(
 ) -> usize
     requires in_bounds { 397495 ≤ length out.old }
     requires name_len_bound { length name.now ≤ 64 }
-    requires answer_within { AnswerWithin answer (length events.now) (lists records firsts seconds) }
-    ensures { Put (was out) 0 (listed_text answer (was events) (lists_before records firsts seconds) (was name)) result (is out) }
+    requires answer_within { AnswerWithin answer (length events.now) (lists_of records.now firsts.now seconds.now) }
+    ensures { Put (was out) 0 (listed_text answer events.now (lists_of records.now firsts.now seconds.now) name.now) result (is out) }
 {
     match answer {
         Answer::Judged {
@@ -55,7 +55,7 @@ fn entry(
     requires at_in_bounds { at + 97 ≤ length out.old }
     requires first_in_bounds { 4 * first + 4 ≤ length events.now }
     requires second_in_bounds { 4 * second + 4 ≤ length events.now }
-    ensures put { Put (was out) at (entry_text (was events) number first second) result (is out) }
+    ensures put { Put (was out) at (entry_text events.now number first second) result (is out) }
     ensures upper_bound { result ≤ at + 97 }
 {
     let a = line::pair(out, at, number, first, second);
@@ -74,8 +74,8 @@ fn entries(
     n: usize,
 ) -> usize
     requires n_in_bounds { 97 * n ≤ length out.old }
-    requires entries_within { EntriesWithin (length events.now) (lists records firsts seconds) n }
-    ensures put { Put (was out) 0 (entries_text (was events) (lists_before records firsts seconds) n) result (is out) }
+    requires entries_within { EntriesWithin (length events.now) (lists_of records.now firsts.now seconds.now) n }
+    ensures put { Put (was out) 0 (entries_text events.now (lists_of records.now firsts.now seconds.now) n) result (is out) }
     ensures upper_bound { result ≤ 97 * n }
 {
     let mut at = 0;
@@ -106,8 +106,8 @@ fn last(
     name: &[u8],
 ) -> usize
     requires { at + length name.now + 119 ≤ length out.old }
-    ensures put { Put (was out) at (raced_text raced strands english hebrew (was name)) result (is out) }
-    ensures upper_bound { result ≤ at + length (was name) + 119 }
+    ensures put { Put (was out) at (raced_text raced strands english hebrew name.now) result (is out) }
+    ensures upper_bound { result ≤ at + length name.now + 119 }
 {
     let a = line::field(out, at, b"raced ", raced);
     let b = line::counts(out, a, strands, english, hebrew);

@@ -32,7 +32,7 @@ pub fn lines(
     seconds: &mut [u32],
     out: &mut [u8],
 ) -> Lined
-    ensures lines_gives { LinesGives (was input) (before labels links places) (lists_before records firsts seconds) (was out) result (after labels links places) (lists_after records firsts seconds) (is out) }
+    ensures lines_gives { LinesGives input.now (before labels links places) (lists_before records firsts seconds) (was out) result (after labels links places) (lists_after records firsts seconds) (is out) }
     ensures lines_fit { LinesFit result (is out) }
 {
     if out.len() < ROOM {
@@ -54,7 +54,7 @@ fn text_of(
     seconds: &mut [u32],
 ) -> usize
     requires { 397495 ≤ length out.old }
-    ensures { TextGives (was input) (before labels links places) (lists_before records firsts seconds) (was out) result (after labels links places) (lists_after records firsts seconds) (is out) }
+    ensures { TextGives input.now (before labels links places) (lists_before records firsts seconds) (was out) result (after labels links places) (lists_after records firsts seconds) (is out) }
 {
     match jobfile::check(input) {
         Checked::Refused(r) => line::refusal(out, r),
@@ -79,7 +79,7 @@ fn judged(
 ) -> usize
     requires in_bounds { 397495 ≤ length out.old }
     requires input_value { check_of input.now ≡ Accepted job }
-    ensures { TextGives (was input) (before labels links places) (lists_before records firsts seconds) (was out) result (after labels links places) (lists_after records firsts seconds) (is out) }
+    ensures { TextGives input.now (before labels links places) (lists_before records firsts seconds) (was out) result (after labels links places) (lists_after records firsts seconds) (is out) }
 {
     let start = job.start;
     let end = start + 4 * job.events;

@@ -17,7 +17,7 @@ pub struct Mark {
 }
 
 // How many labels an insertion set or changed, and the mark after it.
-#[derive(Drop)]
+#[derive(Clone, Copy)]
 pub struct Placing {
     pub changed: usize,
     pub mark: Mark,

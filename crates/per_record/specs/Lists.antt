@@ -1,6 +1,6 @@
 -- The three lists as a call that is lent them has them: record, first and second of each raced record.
 use Rattle.std.specs.Prelude.{◌≡◌, List, ℕ, ◌≤◌, length}
-use Rattle.std.specs.Borrow.{Bor}
+use Rattle.std.specs.Borrow.{MutBor}
 use Rattle.jobfile.specs.Lent.{Lent}
 
 pub record Lists : Type 0 where
@@ -8,8 +8,11 @@ pub record Lists : Type 0 where
   pub firsts : List ℕ
   pub seconds : List ℕ
 
-abbrev pub lists : Bor (List ℕ) → Bor (List ℕ) → Bor (List ℕ) → Lists
-lists records firsts seconds = record { records = records.now; firsts = firsts.now; seconds = seconds.now }
+abbrev pub lists_of : List ℕ → List ℕ → List ℕ → Lists
+lists_of records firsts seconds = record { records = records; firsts = firsts; seconds = seconds }
+
+abbrev pub lists : MutBor (List ℕ) → MutBor (List ℕ) → MutBor (List ℕ) → Lists
+lists records firsts seconds = lists_of records.now firsts.now seconds.now
 
 -- when the call is made, and when it returns
 abbrev pub lists_before : Lent → Lent → Lent → Lists

@@ -24,7 +24,7 @@ use strands::Now;
 use taking::{Reach, until_race};
 
 // How many records raced, the strands begun and both label counts; or a refusal.
-#[derive(Drop)]
+#[derive(Clone, Copy)]
 pub enum Answer {
     Judged {
         raced: usize,
@@ -49,7 +49,7 @@ pub fn judge(
     firsts: &mut [u32],
     seconds: &mut [u32],
 ) -> Answer
-    ensures { RecordsGives (was file) k (before labels links places) (lists_before records firsts seconds) result
+    ensures { RecordsGives file.now k (before labels links places) (lists_before records firsts seconds) result
         (after labels links places) (lists_after records firsts seconds) }
 {
     match jobfile::check(file) {
@@ -74,7 +74,7 @@ pub fn judge_job(
     seconds: &mut [u32],
 ) -> Answer
     requires { check_of file.now ≡ Accepted job }
-    ensures { RecordsGives (was file) k (before labels links places) (lists_before records firsts seconds) result
+    ensures { RecordsGives file.now k (before labels links places) (lists_before records firsts seconds) result
         (after labels links places) (lists_after records firsts seconds) }
 {
     let fault = judging::judge_fault(job, k, labels.len(), links.len(), places.len());
@@ -132,7 +132,7 @@ fn run(
     requires run { Run part.now records k }
     requires in_bounds { (8192 ≤ length labels.old) × (16384 ≤ length links.old) × (16384 ≤ length places.old) }
     requires marked { Marked (event_at part.now) 0 marks.old }
-    ensures { Ran (event_at (was part)) k records (before labels links places) (after labels links places) (is marks) result }
+    ensures { Ran (event_at part.now) k records (before labels links places) (after labels links places) (is marks) result }
 {
     races::clear(places, records);
     let mut lasts = [0; OPEN_TASKS];
@@ -163,7 +163,7 @@ fn go_on(
     marks: &mut [u32; RECORDS],
 ) -> Reach
     requires { MayGo part.now i k (buffers labels links places) (tasks lasts joins) marks.old state }
-    ensures { GoesOn (was part) i k state lasts joins labels links places marks result }
+    ensures { GoesOn part.now i k state lasts joins labels links places marks result }
 {
     let to = stretch(part, i, k, marks);
     if to == i {
@@ -188,7 +188,7 @@ fn go_on(
 fn stretch(part: &[u8], from: usize, k: usize, marks: &[u32; RECORDS]) -> usize
     requires from_lt_k { (from < k) × (4 * k ≤ length part.now) }
     requires by_index { (i : ℕ) → i < k → HasMark part.now i }
-    ensures { FirstFrom (frozen_at (was part) (was marks)) from (stretch_end from k) result }
+    ensures { FirstFrom (frozen_at part.now marks.now) from (stretch_end from k) result }
 {
     let most = within(from, k);
     let mut i = from;
@@ -217,7 +217,7 @@ fn within(from: usize, k: usize) -> usize
 fn frozen(part: &[u8], i: usize, marks: &[u32; RECORDS]) -> bool
     requires i_in_bounds { 4 * i + 4 ≤ length part.now }
     requires has_mark { HasMark part.now i }
-    ensures { result ≡ frozen_at (was part) (was marks) i }
+    ensures { result ≡ frozen_at part.now marks.now i }
 {
     match jobfile::access_of(jobfile::event_at(part, i)) {
         Access::To { kind: _, record } => marks[record as usize] != NO_PLACE,
@@ -247,8 +247,8 @@ fn list(
 ) -> usize
     requires count_bound { (count ≤ 4096) × (16384 ≤ length places.now) }
     requires long_enough { LongEnough count (lists records firsts seconds) }
-    ensures value { result ≡ pairs_below (pair_held (was marks) (was places)) count }
-    ensures seconds_value { lists_after records firsts seconds ≡ entered_below (pair_held (was marks) (was places)) (lists_before records firsts seconds) count }
+    ensures value { result ≡ pairs_below (pair_held marks.now places.now) count }
+    ensures seconds_value { lists_after records firsts seconds ≡ entered_below (pair_held marks.now places.now) (lists_before records firsts seconds) count }
 {
     let mut n = 0;
     let mut r = 0;
@@ -271,8 +271,8 @@ fn enter(
 ) -> usize
     requires r_bound { (r < 4096) × (16384 ≤ length places.now) }
     requires long_enough { LongEnough (n + 1) (lists records firsts seconds) }
-    ensures value { result ≡ n + has_pair (pair_held (was marks) (was places) r) }
-    ensures seconds_value { lists_after records firsts seconds ≡ entered (pair_held (was marks) (was places) r) r n (lists_before records firsts seconds) }
+    ensures value { result ≡ n + has_pair (pair_held marks.now places.now r) }
+    ensures seconds_value { lists_after records firsts seconds ≡ entered (pair_held marks.now places.now r) r n (lists_before records firsts seconds) }
 {
     let mark = marks[r];
     if mark == NO_PLACE {

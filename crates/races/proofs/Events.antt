@@ -31,9 +31,9 @@ is_access other = false
 is_access (access r c) = true
 
 -- which access a class of accesses is
-pub access_of : (a : Access) (r c : ℕ) → act_of a ≡ access r c → (kind : Kind) × (a ≡ To kind r) × (rank kind ≡ c)
-access_of None r c e = absurd (false≢true (ap is_access e))
-access_of (To kind q) r c e = (kind, let z : q ≡ r = ap record_of e in rw z, ap class_of e)
+pub access_of_lem : (a : Access) (r c : ℕ) → act_of a ≡ access r c → (kind : Kind) × (a ≡ To kind r) × (rank kind ≡ c)
+access_of_lem None r c e = absurd (false≢true (ap is_access e))
+access_of_lem (To kind q) r c e = (kind, let z : q ≡ r = ap record_of e in rw z, ap class_of e)
 
 rank_below : (kind : Kind) → rank kind < 2
 rank_below Write = omega arith
@@ -59,7 +59,7 @@ module _ (ev : ℕ → Event) where
   pub fit : Fit rules (event_trace ev)
   fit = record {
     own = last_clashes;
-    classed = λ n r c e. let w = access_of (access_of (ev n)) r c e in rw w.2 at (rank_below w.0);
+    classed = λ n r c e. let w = access_of_lem (access_of (ev n)) r c e in rw w.2 at (rank_below w.0);
   }
 
   pub tied : (k : ℕ) → Rooted (moves ev) k → Tied (event_trace ev) (Parallel (moves ev)) k
@@ -73,7 +73,7 @@ module _ (ev : ℕ → Event) where
 
   pub kind_of : (kind : Kind) (r n : ℕ) → in_class rules (event_trace ev) r (rank kind) n ≡ true → access_of (ev n) ≡ To kind r
   kind_of kind r n t =
-      let w = access_of (access_of (ev n)) r (rank kind) (is_of_lem r (rank kind) (act_of (access_of (ev n))) t) in
+      let w = access_of_lem (access_of (ev n)) r (rank kind) (is_of_lem r (rank kind) (act_of (access_of (ev n))) t) in
       w.1 ∙ ap (λ (k : Kind). To k r) (rank_only w.0 kind w.2)
 
   pub not_kind : (kind : Kind) (r n : ℕ) → in_class rules (event_trace ev) r (rank kind) n ≡ false → access_of (ev n) ≢ To kind r

@@ -21,7 +21,7 @@ use Rattle.races.specs.Mark.{rank, act_of, is_write, rules, event_trace}
 use Rattle.races.specs.Race.{conflict, Race}
 use Rattle.races.specs.Named.{First, NamedOn}
 use Rattle.races.proofs.Records.{RecordFree, pair_is, pair_none, pair_only, race_early}
-use Rattle.races.proofs.Events.{access_of, clash_is, lawful, fit, tied}
+use Rattle.races.proofs.Events.{access_of_lem, clash_is, lawful, fit, tied}
 use Rattle.races.proofs.LastAndStanding.{last_write_is, standing_is, standing_read}
 
 module _ (ev : ℕ → Event) where
@@ -39,8 +39,8 @@ module _ (ev : ℕ → Event) where
 
   on_race : (m j r : ℕ) → RaceOn rules (event_trace ev) (Parallel (moves ev)) r m j → (P : Race ev m j) × (P.number ≡ r)
   on_race m j r P =
-      let x = access_of (access_of (ev m)) r P.a P.first in
-      let y = access_of (access_of (ev j)) r P.b P.second in (
+      let x = access_of_lem (access_of (ev m)) r P.a P.first in
+      let y = access_of_lem (access_of (ev j)) r P.b P.second in (
         record {
           number = r;
           first_kind = x.0;

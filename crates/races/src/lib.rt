@@ -39,7 +39,7 @@ fn empty(places: &mut [u32], from: usize, records: usize)
 // requires: the record has its places.
 pub fn held(places: &[u32], kind: Kind, r: usize) -> usize
     requires { 8192 + r < length places.now }
-    ensures { result ≡ get_or (was places) (8192 * rank kind + r) 0 }
+    ensures { result ≡ get_or places.now (8192 * rank kind + r) 0 }
 {
     wide(places[place_of(kind) + r])
 }

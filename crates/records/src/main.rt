@@ -16,7 +16,7 @@ use lines::ROOM;
 // requires: there is room for the longest text.
 fn printed(input: &[u8], out: &mut [u8]) -> usize
     requires { 397495 ≤ length out.old }
-    ensures put { Put (was out) 0 (printed_of (was input)) result (is out) }
+    ensures put { Put (was out) 0 (printed_of input.now) result (is out) }
     ensures prefix_len { IsPrefixLen result (is out) }
 {
     if input.len() > MOST {

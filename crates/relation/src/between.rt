@@ -9,7 +9,7 @@ use jobfile::{Move, event_at, move_of};
 
 // How far the current task lies under the innermost open task that contained the start, and
 // whether the start is parallel to where the walk stands.
-#[derive(Drop)]
+#[derive(Clone, Copy)]
 pub struct Walker {
     pub height: usize,
     pub par: bool,
@@ -19,7 +19,7 @@ pub struct Walker {
 // requires: q is an event of the part, and no end up to it closes the root.
 pub fn parallel(part: &[u8], p: usize, q: usize) -> bool
     requires { Stretch part.now p q }
-    ensures { result ≡ par (moves (event_at (was part))) p q }
+    ensures { result ≡ par (moves (event_at part.now)) p q }
 {
     let mut w = Walker {
         height: 0,

@@ -15,7 +15,7 @@ use between::parallel;
 use jobfile::{Access, Checked, Refusal, access_of, check, event_at, refuse};
 
 // How the first of two accesses stands to the second.
-#[derive(Drop)]
+#[derive(Clone, Copy)]
 pub enum Related {
     Same,
     Before,
@@ -27,7 +27,7 @@ pub enum Related {
 // The question about events i and j of a file: the check of the file, then one pass over the
 // events between the two.
 pub fn question(file: &[u8], i: usize, j: usize) -> Related
-    ensures { QuestionGives (was file) i j result }
+    ensures { QuestionGives file.now i j result }
 {
     match check(file) {
         Checked::Refused(r) => Related::Refused(r),
@@ -43,7 +43,7 @@ pub fn question(file: &[u8], i: usize, j: usize) -> Related
 // requires: the part holds the events, and no end closes the root.
 fn asked(part: &[u8], count: usize, i: usize, j: usize) -> Related
     requires { Stretch part.now 0 count }
-    ensures { result ≡ asked_of (event_at (was part)) count i j }
+    ensures { result ≡ asked_of (event_at part.now) count i j }
 {
     let below = both(i < count, j < count);
     let access = both(access_at(part, count, i), access_at(part, count, j));
@@ -69,7 +69,7 @@ fn both(a: bool, b: bool) -> bool
 // requires: as `asked`.
 fn access_at(part: &[u8], count: usize, n: usize) -> bool
     requires { Stretch part.now 0 count }
-    ensures { result ≡ (ltb n count && access_at (event_at (was part)) n) }
+    ensures { result ≡ (ltb n count && access_at (event_at part.now) n) }
 {
     if n >= count {
         return false;
@@ -92,7 +92,7 @@ fn is_access(a: Access) -> bool
 fn compare(part: &[u8], count: usize, i: usize, j: usize) -> Related
     requires stretch { Stretch part.now 0 count }
     requires i_lt_count { (i < count) × (j < count) }
-    ensures { result ≡ compare_of (moves (event_at (was part))) i j }
+    ensures { result ≡ compare_of (moves (event_at part.now)) i j }
 {
     if i == j {
         return Related::Same;

@@ -1,7 +1,7 @@
 -- What is kept between two events, as lists: the lent memory of both orders, and the arrays of the open tasks, and the
 -- same as a call's references have it.
 use Rattle.std.specs.Prelude.{List, ℕ}
-use Rattle.std.specs.Borrow.{Bor}
+use Rattle.std.specs.Borrow.{MutBor}
 
 pub record Memory : Type 0 where
   pub labels : List ℕ
@@ -12,8 +12,8 @@ pub record OpenTasks : Type 0 where
   pub lasts : List ℕ
   pub joins : List ℕ
 
-abbrev pub memory : Bor (List ℕ) → Bor (List ℕ) → Memory
+abbrev pub memory : MutBor (List ℕ) → MutBor (List ℕ) → Memory
 memory labels links = record { labels = labels.now; links = links.now }
 
-abbrev pub tasks : Bor (List ℕ) → Bor (List ℕ) → OpenTasks
+abbrev pub tasks : MutBor (List ℕ) → MutBor (List ℕ) → OpenTasks
 tasks lasts joins = record { lasts = lasts.now; joins = joins.now }

@@ -1,6 +1,6 @@
 -- The three work buffers as lists, and as a call that is lent them has them.
 use Rattle.std.specs.Prelude.{List, ℕ}
-use Rattle.std.specs.Borrow.{Bor}
+use Rattle.std.specs.Borrow.{MutBor}
 use Rattle.jobfile.specs.Lent.{Lent}
 use Rattle.strands.specs.Memory.{Memory}
 
@@ -13,7 +13,7 @@ pub record Buffers : Type 0 where
 abbrev pub orders_in : Buffers → Memory
 orders_in B = record { labels = B.labels; links = B.links }
 
-abbrev pub buffers : Bor (List ℕ) → Bor (List ℕ) → Bor (List ℕ) → Buffers
+abbrev pub buffers : MutBor (List ℕ) → MutBor (List ℕ) → MutBor (List ℕ) → Buffers
 buffers labels links places = record { labels = labels.now; links = links.now; places = places.now }
 
 -- when the call is made, and when it returns

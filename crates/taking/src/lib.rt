@@ -16,21 +16,21 @@ use races::wide;
 use strands::Now;
 
 // What one event leads to: the next state; or it is the second access of a race, and nothing is stored.
-#[derive(Drop)]
+#[derive(Clone, Copy)]
 pub enum Turn {
     Go(Now),
     Raced,
 }
 
 // How far a run went: event `at` is next, and this is the state before it.
-#[derive(Drop)]
+#[derive(Clone, Copy)]
 pub struct Reach {
     pub at: usize,
     pub state: Now,
 }
 
 // The first access of a race: which place of which record holds it.
-#[derive(Drop)]
+#[derive(Clone, Copy)]
 pub struct Found {
     pub kind: Kind,
     pub record: usize,
@@ -52,7 +52,7 @@ pub fn until_race(
     places: &mut [u32],
 ) -> Reach
     requires { Runnable part.now from to (buffers labels links places) (tasks lasts joins) begun }
-    ensures { WentFrom (was part) from to begun lasts joins labels links places result }
+    ensures { WentFrom part.now from to begun lasts joins labels links places result }
 {
     let mut state = begun;
     let mut i = from;
@@ -100,7 +100,7 @@ fn take(
     places: &mut [u32],
 ) -> Turn
     requires { Turnable part.now i (buffers labels links places) (tasks lasts joins) state }
-    ensures { Taken (was part) i state lasts joins labels links places result }
+    ensures { Taken part.now i state lasts joins labels links places result }
 {
     let e = jobfile::event_at(part, i);
     match jobfile::access_of(e) {
@@ -129,7 +129,7 @@ fn take(
 // requires: the state is that before event i, which races, as `until_race` leaves it.
 pub fn find(part: &[u8], i: usize, state: Now, labels: &[u64], places: &[u32]) -> Found
     requires { Findable part.now i labels.now places.now state }
-    ensures { FirstFound (was part) i result }
+    ensures { FirstFound part.now i result }
 {
     let record = record_at(part, i);
     let strand = state.strands - 1;
@@ -149,7 +149,7 @@ pub fn find(part: &[u8], i: usize, state: Now, labels: &[u64], places: &[u32]) -
 // The record of event i; 0, as in the file, where it has none.
 fn record_at(part: &[u8], i: usize) -> usize
     requires { 4 * i + 4 ≤ length part.now }
-    ensures { result ≡ record_of ((event_trace (event_at (was part))).act i) }
+    ensures { result ≡ record_of ((event_trace (event_at part.now)).act i) }
 {
     match jobfile::access_of(jobfile::event_at(part, i)) {
         Access::To { kind: _, record } => record as usize,
@@ -172,7 +172,7 @@ fn clashing(kind: Kind, read: usize, strand: usize) -> usize
 // Whether strand `other` is parallel to `strand`, the current one: its Hebrew label is above.
 fn above(labels: &[u64], strand: usize, other: usize) -> bool
     requires { (8192 ≤ length labels.now) × (strand < 4096) × (other < 4096) }
-    ensures { result ≡ label_above (was labels) strand other }
+    ensures { result ≡ label_above labels.now strand other }
 {
     labels[HEBREW_LABELS + strand] < labels[HEBREW_LABELS + other]
 }
