@@ -8,7 +8,7 @@ use libc::STDIN_FILENO;
 pub const MOST: usize = 65536;
 
 // How many bytes standard input has, as far as there is room for them; or a read failed.
-#[derive(Drop)]
+#[derive(Clone, Copy)]
 pub enum Input {
     Bytes(usize),
     Failed,

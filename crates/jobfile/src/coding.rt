@@ -7,7 +7,7 @@ ghost use Rattle.jobfile.specs.Trace.{event_at};
 use crate::event::Event;
 
 // What four bytes are read as: an event, or the number of a refusal.
-#[derive(Drop)]
+#[derive(Clone, Copy)]
 pub enum Decoded {
     Event(Event),
     Refused(u32),

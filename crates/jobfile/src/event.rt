@@ -4,7 +4,7 @@ ghost use Rattle.std.specs.Prelude.{◌≡◌};
 ghost use Rattle.jobfile.specs.Events.{move_of, access_of};
 
 // One of five things; two carry a record.
-#[derive(Drop)]
+#[derive(Clone, Copy)]
 pub enum Event {
     Spawn,
     End,
@@ -15,7 +15,7 @@ pub enum Event {
 
 // What an event does to the structure: it opens a spawned task, closes the current one, joins what the current one has spawned, or
 // nothing.
-#[derive(Drop)]
+#[derive(Clone, Copy)]
 pub enum Move {
     Opens,
     Closes,
@@ -24,14 +24,14 @@ pub enum Move {
 }
 
 // How a record is accessed.
-#[derive(Drop)]
+#[derive(Clone, Copy)]
 pub enum Kind {
     Write,
     Read,
 }
 
 // What an event does to a record: nothing, or an access to it.
-#[derive(Drop)]
+#[derive(Clone, Copy)]
 pub enum Access {
     None,
     To { kind: Kind, record: u16 },

@@ -21,7 +21,7 @@ pub use tasks::{Traced, trace};
 
 // What an accepted file gives: where the events start, which is the name's length, how many they
 // are, the record count, and how many strands begin.
-#[derive(Drop)]
+#[derive(Clone, Copy)]
 pub struct Job {
     pub start: usize,
     pub events: usize,
@@ -29,7 +29,7 @@ pub struct Job {
     pub strands: usize,
 }
 
-#[derive(Drop)]
+#[derive(Clone, Copy)]
 pub enum Checked {
     Accepted(Job),
     Refused(Refusal),

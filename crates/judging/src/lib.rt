@@ -18,7 +18,7 @@ use limits::{LABELS, LINKS, NO_STRAND, OPEN_TASKS, PLACES, STRANDS};
 use taking::until_race;
 
 // Clean or race, with the strands begun and both label counts; or a refusal.
-#[derive(Drop)]
+#[derive(Clone, Copy)]
 pub enum Answer {
     Clean {
         strands: usize,

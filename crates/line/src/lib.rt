@@ -19,7 +19,7 @@ use jobfile::{Checked, Job};
 pub use text::field;
 
 // How many bytes were put; or that the output is too short for them.
-#[derive(Drop)]
+#[derive(Clone, Copy)]
 pub enum Lined {
     Bytes(usize),
     Short,

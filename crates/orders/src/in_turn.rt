@@ -9,7 +9,7 @@ use crate::spacing::{put, spaced};
 use limits::NO_LINK;
 
 // How many labels an append set or changed, and how many strands from the first on then have the labels of their positions.
-#[derive(Drop)]
+#[derive(Clone, Copy)]
 pub struct Appending {
     pub changed: usize,
     pub settled: usize,

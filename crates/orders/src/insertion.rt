@@ -10,14 +10,14 @@ use limits::STRANDS;
 
 // Where the next respacing of an order starts: strand `from` stands at position `at`, and all that stand ahead of it have the labels of
 // their positions. Before the first respacing that is strand 0, at position 0; after one, with every strand ahead, `from` means nothing.
-#[derive(Drop)]
+#[derive(Clone, Copy)]
 pub struct Mark {
     pub from: usize,
     pub at: usize,
 }
 
 // How many labels an insertion set or changed, and the mark after it.
-#[derive(Drop)]
+#[derive(Clone, Copy)]
 pub struct Placing {
     pub changed: usize,
     pub mark: Mark,

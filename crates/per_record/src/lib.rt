@@ -24,7 +24,7 @@ use strands::Now;
 use taking::{Reach, until_race};
 
 // How many records raced, the strands begun and both label counts; or a refusal.
-#[derive(Drop)]
+#[derive(Clone, Copy)]
 pub enum Answer {
     Judged {
         raced: usize,

@@ -9,7 +9,7 @@ use jobfile::{Move, event_at, move_of};
 
 // How far the current task lies under the innermost open task that contained the start, and
 // whether the start is parallel to where the walk stands.
-#[derive(Drop)]
+#[derive(Clone, Copy)]
 pub struct Walker {
     pub height: usize,
     pub par: bool,

@@ -15,7 +15,7 @@ use between::parallel;
 use jobfile::{Access, Checked, Refusal, access_of, check, event_at, refuse};
 
 // How the first of two accesses stands to the second.
-#[derive(Drop)]
+#[derive(Clone, Copy)]
 pub enum Related {
     Same,
     Before,

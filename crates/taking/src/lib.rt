@@ -16,21 +16,21 @@ use races::wide;
 use strands::Now;
 
 // What one event leads to: the next state; or it is the second access of a race, and nothing is stored.
-#[derive(Drop)]
+#[derive(Clone, Copy)]
 pub enum Turn {
     Go(Now),
     Raced,
 }
 
 // How far a run went: event `at` is next, and this is the state before it.
-#[derive(Drop)]
+#[derive(Clone, Copy)]
 pub struct Reach {
     pub at: usize,
     pub state: Now,
 }
 
 // The first access of a race: which place of which record holds it.
-#[derive(Drop)]
+#[derive(Clone, Copy)]
 pub struct Found {
     pub kind: Kind,
     pub record: usize,
