@@ -1,4 +1,6 @@
 // Bytes put at a place of a lent buffer, one run behind another: the parts of a file, the fields of a line.
+#![tactic(auto)]
+
 ghost use Rattle.std.specs.Prelude.{◌+◌, ◌≤◌, length};
 ghost use Rattle.bytes_at.specs.Put.{Put};
 
@@ -8,5 +10,7 @@ pub fn put(out: &mut [u8], at: usize, bytes: &[u8]) -> usize
     requires { at + length bytes.now ≤ length out.old }
     ensures { Put out.old at bytes.now result out.new }
 {
-    at + bytes::copy(bytes, &mut out[at..])
+    let end = at + bytes.len();
+    out[at..end].copy_from_slice(bytes);
+    end
 }

@@ -27,9 +27,9 @@ returns-then-distance-before-clause-value c =
 pub returns-then-before-distance-gt-NAME-clause-value : goal.returns-then-before-distance-gt-NAME-clause-value
 returns-then-before-distance-gt-NAME-clause-value c =
     long_name _ _ _ _ c.if-records-eq0.false (omega arith) (omega arith) c.if-distance-count.false (omega arith)
-      c.if-before-distance-gt-NAME.true
+    c.if-before-distance-gt-NAME.true
 
 pub returns-clause-value : goal.returns-clause-value
 returns-clause-value c =
     no_fault _ _ _ _ c.if-records-eq0.false (omega arith) (omega arith) c.if-distance-count.false (omega arith)
-      c.if-before-distance-gt-NAME.false
+    c.if-before-distance-gt-NAME.false

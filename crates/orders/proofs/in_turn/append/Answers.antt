@@ -13,23 +13,16 @@ pub overflow_sub-gap : goal.overflow_sub-gap
 overflow_sub-gap c =
     last_below _ _ _ _ _ _ c.requires
 
-pub returns-then-gap-ge2-clause-inserted : goal.returns-then-gap-ge2-clause-inserted
-returns-then-gap-ge2-clause-inserted c =
-    rw c.link.ensures (appended_between _ _ _ _ _ _ c.requires c.if-gap-ge2.true).0
-
-pub returns-then-gap-ge2-clause-appends : goal.returns-then-gap-ge2-clause-appends
-returns-then-gap-ge2-clause-appends c =
-    (appended_between _ _ _ _ _ _ c.requires c.if-gap-ge2.true).1
+pub returns-then-gap-ge2 : goal.returns-then-gap-ge2
+returns-then-gap-ge2 c =
+    let it = appended_between _ _ _ _ _ _ c.requires c.if-gap-ge2.true in
+    record { inserted = rw c.link.ensures it.0; appends = it.1 }
 
 pub shape_of-labels : goal.shape_of-labels
 shape_of-labels c =
     c.respace-changed.auto.labels ∙ simp length-set
 
-pub returns-clause-inserted : goal.returns-clause-inserted
-returns-clause-inserted c =
-    rw (c.link.ensures, c.respace-changed.ensures.labels_after, c.respace-changed.ensures.value)
-    (appended_respaced _ _ _ _ _ _ c.requires c.if-gap-ge2.false).0
-
-pub returns-clause-appends : goal.returns-clause-appends
-returns-clause-appends c =
-    (appended_respaced _ _ _ _ _ _ c.requires c.if-gap-ge2.false).1
+pub returns : goal.returns
+returns c =
+    let it = appended_respaced _ _ _ _ _ _ c.requires c.if-gap-ge2.false in
+    record { inserted = rw (c.link.ensures, c.respace-changed.ensures.labels_after, c.respace-changed.ensures.value) it.0; appends = it.1 }

@@ -19,15 +19,11 @@ pub overflow_sub-gap : goal.overflow_sub-gap
 overflow_sub-gap c =
     rw (high (goal.at.overflow_sub-gap c).After-above) (gap _ _ _ _ _ _ c.requires.place)
 
-pub returns-then-gap-ge2-clause-inserted : goal.returns-then-gap-ge2-clause-inserted
-returns-then-gap-ge2-clause-inserted c =
-    let h = high (goal.at.returns-then-gap-ge2-clause-inserted c).After-above in
-    rw (c.link.ensures, h) (inserted_between _ _ _ _ _ _ _ c.requires (rw h at c.if-gap-ge2.true)).0
-
-pub returns-then-gap-ge2-clause-settles : goal.returns-then-gap-ge2-clause-settles
-returns-then-gap-ge2-clause-settles c =
-    let h = high (goal.at.returns-then-gap-ge2-clause-settles c).After-above in
-    rw c.lowered-low.ensures (inserted_between _ _ _ _ _ _ _ c.requires (rw h at c.if-gap-ge2.true)).1
+pub returns-then-gap-ge2 : goal.returns-then-gap-ge2
+returns-then-gap-ge2 c =
+    let h = high (goal.at.returns-then-gap-ge2 c).After-above in
+    let it = inserted_between _ _ _ _ _ _ _ c.requires (rw h at c.if-gap-ge2.true) in
+    record { inserted = rw (c.link.ensures, h) it.0; settles = rw c.lowered-low.ensures it.1 }
 
 pub respace-changed-requires : goal.respace-changed-requires
 respace-changed-requires c =
@@ -37,13 +33,11 @@ pub shape_of-labels : goal.shape_of-labels
 shape_of-labels c =
     c.respace-changed.auto.labels ∙ simp length-set
 
-pub returns-clause-inserted : goal.returns-clause-inserted
-returns-clause-inserted c =
-    let a = (goal.at.returns-clause-inserted c).After-above in
-    rw (c.respace-changed.ensures.labels_after, c.respace-changed.ensures.value, linked_now a, c.lowered-low.ensures)
-    (inserted_respaced _ _ _ _ _ _ _ c.requires (rw (high a) at c.if-gap-ge2.false)).0
-
-pub returns-clause-settles : goal.returns-clause-settles
-returns-clause-settles c =
-    let a = (goal.at.returns-clause-settles c).After-above in
-    (inserted_respaced _ _ _ _ _ _ _ c.requires (rw (high a) at c.if-gap-ge2.false)).1
+pub returns : goal.returns
+returns c =
+    let a = (goal.at.returns c).After-above in
+    let it = inserted_respaced _ _ _ _ _ _ _ c.requires (rw (high a) at c.if-gap-ge2.false) in
+    record {
+      inserted = rw (c.respace-changed.ensures.labels_after, c.respace-changed.ensures.value, linked_now a, c.lowered-low.ensures) it.0;
+      settles = it.1;
+    }

@@ -18,8 +18,7 @@ loop-n-init c =
 
 pub loop-n-preserved : goal.loop-n-preserved
 loop-n-preserved c =
-    let I = c.loop-n.invariant in
-    (
+    let I = c.loop-n.invariant in (
       omega arith,
       omega arith,
       omega arith,

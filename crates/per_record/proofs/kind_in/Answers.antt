@@ -1,0 +1,12 @@
+-- `kind_in` meets its contract: the test picks the case of the definition. Assumes nothing.
+use borrow.Author.Rules.{rules}
+use Rattle.per_record.proofs.Marking.{low_kind, high_kind}
+use Rattle.per_record.proofs.kind_in.Goals as goal
+
+pub returns-then-wide-lt-EVENTS : goal.returns-then-wide-lt-EVENTS
+returns-then-wide-lt-EVENTS c =
+    low_kind _ (rw c.wide.ensures at c.if-wide-lt-EVENTS.true)
+
+pub returns : goal.returns
+returns c =
+    high_kind _ (rw c.wide.ensures at c.if-wide-lt-EVENTS.false)
