@@ -9,7 +9,7 @@ use std::io::{Eprint, Error, Read};
 // The most bytes that a program takes.
 pub const MOST: usize = 65536;
 
-// How many bytes standard input has, as far as there is room for them; or a read failed, and why.
+// How many bytes standard input has, as far as there is room for them; or a read failed.
 #[derive(Clone, Copy)]
 pub enum Input {
     Bytes(usize),
