@@ -1,37 +1,41 @@
 // Runs the small jobs of the rules through the library, from writing to judging, and prints what
 // came out, a line for each. A job is written as in the rules: S, E, J, R and W, with the record.
+#![tactic(auto)]
+
 ghost use Rattle.std.specs.Prelude.{◌+◌, ◌≤◌, length};
 ghost use Rattle.jobfile.specs.Lent.{is};
 ghost use Rattle.io.specs.Counts.{IsPrefixLen};
 
 use judging::Answer;
-use libc::STDOUT_FILENO;
+use std::io::Print;
 use writing::Written;
 
-fn say(word: &[u8]) {
-    io::write_all(STDOUT_FILENO, word);
+// Writes the bytes to standard output. A failed write is not told: the output is compared whole.
+fn say<R: Print>(rt: &R, word: &[u8]) {
+    let _ = rt.write_all(word);
 }
 
-fn number(word: &[u8], n: usize) {
-    say(word);
-    io::print_decimal(STDOUT_FILENO, n as u64);
+// The same of a word and a number in decimal.
+fn number<R: Print>(rt: &R, word: &[u8], n: u64) {
+    say(rt, word);
+    let _ = rt.print(n);
 }
 
-fn counts(strands: usize, english: usize, hebrew: usize) {
-    number(b" strands ", strands);
-    number(b" english ", english);
-    number(b" hebrew ", hebrew);
+fn counts<R: Print>(rt: &R, strands: usize, english: usize, hebrew: usize) {
+    number(rt, b" strands ", strands as u64);
+    number(rt, b" english ", english as u64);
+    number(rt, b" hebrew ", hebrew as u64);
 }
 
-fn report(answer: Answer) {
+fn report<R: Print>(rt: &R, answer: Answer) {
     match answer {
         Answer::Clean {
             strands,
             english,
             hebrew,
         } => {
-            say(b": clean");
-            counts(strands, english, hebrew);
+            say(rt, b": clean");
+            counts(rt, strands, english, hebrew);
         }
         Answer::Race {
             first,
@@ -41,17 +45,17 @@ fn report(answer: Answer) {
             english,
             hebrew,
         } => {
-            number(b": race ", first);
-            number(b" ", second);
-            number(b" record ", record);
-            counts(strands, english, hebrew);
+            number(rt, b": race ", first as u64);
+            number(rt, b" ", second as u64);
+            number(rt, b" record ", record as u64);
+            counts(rt, strands, english, hebrew);
         }
         Answer::Refused(r) => {
-            number(b": refused ", r.number as usize);
-            number(b" event ", r.event);
+            number(rt, b": refused ", r.number as u64);
+            number(rt, b" event ", r.event as u64);
         }
     }
-    say(b"\n");
+    say(rt, b"\n");
 }
 
 // The kind that a letter stands for, or 0.
@@ -147,70 +151,67 @@ fn judged(name: &[u8], events: &[u8], labels: &mut [u64]) -> Answer {
 }
 
 // So many times one job, then so many times another.
-fn run(times: usize, job: &[u8], again: usize, then: &[u8]) {
+fn run<R: Print>(rt: &R, times: usize, job: &[u8], again: usize, then: &[u8]) {
     let mut labels = [0u64; limits::LABELS];
     let mut events = io::large_buffer();
     let n = repeat(&mut events, 0, times, job);
     let m = repeat(&mut events, n, again, then);
-    report(judged(b"", &events[..m], &mut labels));
+    report(rt, judged(b"", &events[..m], &mut labels));
 }
 
-fn small(number: &[u8], job: &[u8]) {
-    say(number);
-    say(job);
-    run(1, job, 0, b"");
+fn small<R: Print>(rt: &R, number: &[u8], job: &[u8]) {
+    say(rt, number);
+    say(rt, job);
+    run(rt, 1, job, 0, b"");
 }
 
-fn large(title: &[u8], times: usize, job: &[u8], again: usize, then: &[u8]) {
-    say(title);
-    run(times, job, again, then);
+fn large<R: Print>(rt: &R, title: &[u8], times: usize, job: &[u8], again: usize, then: &[u8]) {
+    say(rt, title);
+    run(rt, times, job, again, then);
 }
 
 // The labels of the first three strands, from a place of the buffer on.
-fn three(word: &[u8], labels: &[u64], at: usize)
+fn three<R: Print>(rt: &R, word: &[u8], labels: &[u64], at: usize)
     requires { at + 3 ≤ length labels.now }
 {
-    say(word);
-    io::print_decimal(STDOUT_FILENO, labels[at]);
-    say(b" ");
-    io::print_decimal(STDOUT_FILENO, labels[at + 1]);
-    say(b" ");
-    io::print_decimal(STDOUT_FILENO, labels[at + 2]);
-    say(b"\n");
+    number(rt, word, labels[at]);
+    number(rt, b" ", labels[at + 1]);
+    number(rt, b" ", labels[at + 2]);
+    say(rt, b"\n");
 }
 
 // The whole file of the rules, with the labels that it leaves.
-fn whole() {
+fn whole<R: Print>(rt: &R) {
     let mut labels = [0u64; limits::LABELS];
     let mut events = io::large_buffer();
     let job = b"W0 S R0 W1 E R0 W1 J";
     let n = repeat(&mut events, 0, 1, job);
-    say(b"L4 ");
-    say(job);
-    report(judged(b"L4", &events[..n], &mut labels));
-    three(b"L4 English labels ", &labels, 0);
-    three(b"L4 Hebrew labels ", &labels, limits::HEBREW_LABELS);
+    say(rt, b"L4 ");
+    say(rt, job);
+    report(rt, judged(b"L4", &events[..n], &mut labels));
+    three(rt, b"L4 English labels ", &labels, 0);
+    three(rt, b"L4 Hebrew labels ", &labels, limits::HEBREW_LABELS);
 }
 
-fn one_to_ten() {
-    small(b"1 no events", b"");
-    small(b"2 ", b"W0 R0");
-    small(b"3 ", b"S W0 E W0");
-    small(b"4 ", b"S W0 E J W0");
-    small(b"5 ", b"S R0 E R0 W0");
-    small(b"6 ", b"S R0 W0 E W0");
-    small(b"7 ", b"S W0 E S W0 E");
-    small(b"8 ", b"S W0 E J S W0 E");
-    small(b"9 ", b"S S W0 E J E W0");
-    small(b"10 ", b"S W0 E S J W0 E");
+fn one_to_ten<R: Print>(rt: &R) {
+    small(rt, b"1 no events", b"");
+    small(rt, b"2 ", b"W0 R0");
+    small(rt, b"3 ", b"S W0 E W0");
+    small(rt, b"4 ", b"S W0 E J W0");
+    small(rt, b"5 ", b"S R0 E R0 W0");
+    small(rt, b"6 ", b"S R0 W0 E W0");
+    small(rt, b"7 ", b"S W0 E S W0 E");
+    small(rt, b"8 ", b"S W0 E J S W0 E");
+    small(rt, b"9 ", b"S S W0 E J E W0");
+    small(rt, b"10 ", b"S W0 E S J W0 E");
 }
 
-fn main() {
-    one_to_ten();
-    large(b"11 63 S, 63 E", 63, b"S", 63, b"E");
-    large(b"11 64 S, 64 E", 64, b"S", 64, b"E");
-    large(b"11 2047 S E, J", 2047, b"S E", 1, b"J");
-    large(b"11 2048 S E", 2048, b"S E", 0, b"");
-    large(b"12 32 S E", 32, b"S E", 0, b"");
-    whole();
+fn main(rt: HostRuntime) {
+    one_to_ten(&rt);
+    large(&rt, b"11 63 S, 63 E", 63, b"S", 63, b"E");
+    large(&rt, b"11 64 S, 64 E", 64, b"S", 64, b"E");
+    large(&rt, b"11 2047 S E, J", 2047, b"S E", 1, b"J");
+    large(&rt, b"11 2048 S E", 2048, b"S E", 0, b"");
+    large(&rt, b"12 32 S E", 32, b"S E", 0, b"");
+    whole(&rt);
 }

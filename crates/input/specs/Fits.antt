@@ -7,4 +7,4 @@ use Rattle.input.specs.declared.Input.TheVariants.{Bytes, Failed}
 -- so many bytes are at the start of the buffer; of a read that failed nothing is said
 abbrev pub InputFits : Input → List ℕ → Type 0
 InputFits (Bytes n) buffer = IsPrefixLen n buffer
-InputFits Failed buffer = Unit {0}
+InputFits (Failed e) buffer = Unit {0}

@@ -1,8 +1,10 @@
-// Standard input of a program, taken whole into a buffer.
+// Standard input of a program, taken whole into a buffer; and how a read or a write that failed is told.
+#![tactic(auto)]
+
 ghost use Rattle.jobfile.specs.Lent.{is};
 ghost use Rattle.input.specs.Fits.{InputFits};
 
-use libc::STDIN_FILENO;
+use std::io::{Eprint, Error, Read};
 
 // The most bytes that a program takes.
 pub const MOST: usize = 65536;
@@ -11,24 +13,33 @@ pub const MOST: usize = 65536;
 #[derive(Clone, Copy)]
 pub enum Input {
     Bytes(usize),
-    Failed,
+    Failed(Error),
 }
 
-// Standard input from its start, until it ends or the buffer is full.
-pub fn read(buffer: &mut [u8]) -> Input
+// The input from where it stands, until it ends or the buffer is full.
+pub fn read<R: Read>(input: &mut R, buffer: &mut [u8]) -> Input
     ensures { InputFits result (is buffer) }
 {
     let mut n = 0;
     while n < buffer.len() {
-        let got = libc::read(STDIN_FILENO, &mut buffer[n..]);
-        if got < 0 {
-            return Input::Failed;
+        match input.read(&mut buffer[n..]) {
+            Ok(0) => return Input::Bytes(n),
+            Ok(more) => n += more,
+            Err(e) => return Input::Failed(e),
         }
-        let more = io::count(got, &buffer[n..]);
-        if more == 0 {
-            return Input::Bytes(n);
-        }
-        n += more;
     }
     Input::Bytes(n)
+}
+
+// Tells on standard error what failed and why, in the system's words without their number. That this line cannot be written is not told.
+pub fn tell<R: Eprint + AllocGlobal>(rt: &R, what: &str, why: Error) {
+    let _ = match format!(in rt.alloc(); "{why}") {
+        Ok(text) => {
+            let words = text
+                .split_once(" (os error ")
+                .map_or(text.as_str(), |(words, _)| words);
+            eprintln!(rt; "{what}: {words}")
+        }
+        Err(_) => eprintln!(rt; "{what}: {why}"),
+    };
 }

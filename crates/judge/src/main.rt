@@ -1,5 +1,7 @@
 // Judges the job file on standard input and prints the one line of it. Where a read fails no line is
 // printed, since what came is not the file; what failed, reading or printing, is told on standard error.
+#![tactic(auto)]
+
 ghost use Rattle.std.specs.Prelude.{◌≤◌, length};
 ghost use Rattle.io.specs.Counts.{IsPrefixLen};
 ghost use Rattle.jobfile.specs.Lent.{was, is};
@@ -8,7 +10,7 @@ ghost use Rattle.judge.specs.Printed.{printed_of};
 
 use bytes_at::put;
 use input::{Input, MOST};
-use libc::STDOUT_FILENO;
+use std::io::Print;
 
 // What is printed for the input, at the start of `out`; answers how many bytes.
 // requires: there is room for the longest line.
@@ -30,16 +32,16 @@ fn printed(input: &[u8], out: &mut [u8]) -> usize
 }
 
 // One byte more than the program takes shows that there are too many.
-fn main() {
+fn main(rt: HostRuntime) {
     let mut buffer = [0u8; MOST + 1];
     let mut out = [0u8; 256];
-    match input::read(&mut buffer) {
+    match input::read(&mut rt.stdin(), &mut buffer) {
         Input::Bytes(n) => {
             let length = printed(&buffer[..n], &mut out);
-            if !io::write_all(STDOUT_FILENO, &out[..length]) {
-                os::fail(b"judge: standard output");
+            if let Err(e) = rt.write_all(&out[..length]) {
+                input::tell(&rt, "judge: standard output", e);
             }
         }
-        Input::Failed => os::fail(b"judge: standard input"),
+        Input::Failed(e) => input::tell(&rt, "judge: standard input", e),
     }
 }

@@ -3,6 +3,8 @@
 // Every input is dealt with. The input's bytes and the lengths of the work buffers determine every
 // byte of the line. No public entry point has a `requires`; the parts of a line that are lent to a
 // crate above have one, with its reason.
+#![tactic(auto)]
+
 mod answers;
 mod text;
 

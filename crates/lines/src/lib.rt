@@ -2,6 +2,8 @@
 //
 // Every input is dealt with. The input's bytes and the lengths of the work buffers and the lists
 // determine every byte of the lines. No public entry point has a `requires`.
+#![tactic(auto)]
+
 mod answers;
 
 ghost use Rattle.std.specs.Prelude.{◌≡◌, ◌≤◌, length};

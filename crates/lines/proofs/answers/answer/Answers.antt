@@ -1,0 +1,30 @@
+-- `answer` meets its contract: each arm puts the text of its case, and the test says whether anything is raced. Assumes nothing.
+use native.Mathlib.Omega.{arith}
+use Rattle.bytes_at.proofs.Puts.{put_put}
+use Rattle.lines.proofs.Told.{clean_told, raced_told}
+use Rattle.lines.proofs.answers.answer.Goals as goal
+
+pub returns-then-raced-eq0 : goal.returns-then-raced-eq0
+returns-then-raced-eq0 c =
+    rw (c.in-Judged.is, ← clean_told _ _ _ _ _ _ c.if-raced-eq0.true) c.clean.ensures.put
+
+pub entries-at-requires-clause-n_in_bounds : goal.entries-at-requires-clause-n_in_bounds
+entries-at-requires-clause-n_in_bounds c =
+    let within = rw c.in-Judged.is at c.requires.answer_within in omega (arith, within.0)
+
+pub entries-at-requires-clause-entries_within : goal.entries-at-requires-clause-entries_within
+entries-at-requires-clause-entries_within c =
+    let within = rw c.in-Judged.is at c.requires.answer_within in within.1
+
+pub last-requires : goal.last-requires
+last-requires c =
+    let within = rw c.in-Judged.is at c.requires.answer_within in
+    omega (arith, within.0, c.entries-at.ensures.upper_bound)
+
+pub returns-else-raced-eq0 : goal.returns-else-raced-eq0
+returns-else-raced-eq0 c =
+    rw (c.in-Judged.is, ← raced_told _ _ _ _ _ _ c.if-raced-eq0.false) (put_put c.entries-at.ensures.put c.last.ensures.put)
+
+pub returns-in-Refused : goal.returns-in-Refused
+returns-in-Refused c =
+    rw c.in-Refused.is c.refusal.ensures.put
