@@ -1,19 +1,39 @@
 -- Bytes put one after another are put as one. Assumes nothing.
 use Prim.Native.Nat.{ℕ, ◌+◌, ◌-◌, ◌≤◌}
 use native.Mathlib.Omega.{arith}
-use native.Mathlib.Nat.{zero-add}
+use native.Mathlib.Nat.{zero-add, le_refl}
 use mathlib.Core.Path.{◌≡◌, refl, sym, ◌∙◌}
 use mathlib.Core.List.{List, [], ◌++◌, append_assoc, append-nil}
-use lib.ListN.{length, take, drop, length-append, take-append-drop}
-use lib.Seq.{drop-drop}
+use lib.ListN.{length, take, drop, length-append, length-drop, take-append-drop, drop_of_length-le}
+use lib.Seq.{paste, take-paste, drop-paste, take-length, take_all, drop-drop}
 use borrow.Rule.Slice.PartMut.{put_mid}
 use Rattle.std.proofs.lemmas.Slice.{take-put_mid, drop-put_mid}
 use Rattle.bytes_at.specs.Put.{Put}
 
+-- a copy to the front of what stands from `at` on; `part` is what stands there then
+module _ (d : List ℕ) (at : ℕ) (s part : List ℕ) (fits : at + length s ≤ length d)
+    (copy : part ≡ take (length s) s ++ drop (length s) (take (length d - at) (drop at d))) where
+  left : length (drop at d) ≤ length d - at
+  left = omega (arith, length-drop at d)
+
+  pasted : take at d ++ (part ++ drop (length d - at) (drop at d)) ≡ paste d at s (length s)
+  pasted =
+      rw (drop_of_length-le (drop at d) {i = length d - at} left, append-nil, copy, take_all (length d - at) (drop at d) left, drop-drop (length s) at d)
+      (sym (append_assoc (take at d) (take (length s) s) (drop (at + length s) d)))
+
+  pub copied : (n : ℕ) → n ≡ length s → Put d at s (at + n) (take at d ++ (part ++ drop (length d - at) (drop at d)))
+  copied n all =
+      let h : at ≤ length d = omega arith in
+      record {
+        front = rw (all, pasted, take-paste d at s (length s) h (le_refl (length s)), take-length);
+        rest = rw (all, pasted, drop-paste d at s (length s) h (le_refl (length s)));
+        count = rw all;
+      }
+
 -- a copy to as many bytes from `at` on; `part` is what stands there then
 module _ (d : List ℕ) (at : ℕ) (s part : List ℕ) (fits : at + length s ≤ length d) (copy : part ≡ s) where
-  pub copied : (n k : ℕ) → n ≡ at + length s → k ≡ n - at → Put d at s n (put_mid at k d part)
-  copied n k end size =
+  pub copied_in : (n k : ℕ) → n ≡ at + length s → k ≡ n - at → Put d at s n (put_mid at k d part)
+  copied_in n k end size =
       let h : at ≤ length d = omega arith in
       let same : length part ≡ length s = rw copy in
       record {
