@@ -1,8 +1,8 @@
 -- What an event makes of a record's places: nothing if it is no access of the record, if the record has raced, or if it is the second of
 -- the record's race; otherwise its own class's place follows the rule. Assumes nothing.
-use mathlib.Core.Path.{◌≡◌, refl, sym, ◌∙◌}
+use mathlib.Core.Path.{◌≡◌, refl, sym, ap, ◌∙◌}
 use mathlib.Core.Bool.{Bool, true, false, cond, false≢true}
-use mathlib.Core.Option.{Option, none, some}
+use mathlib.Core.Option.{Option, none, some, get_or}
 use Prim.Native.Nat.{ℕ, suc}
 use Rattle.races.specs.Search.{or_here, least}
 use Rattle.races.specs.Trace.{Act, other, access, Trace, Lawful, on_record, is_of}
@@ -48,11 +48,11 @@ module _ (R : Rules) (T : Trace) where
 
   pub stop_none : (r n : ℕ) → second_of R T r n ≡ none → stop_of R T r n ≡ n
   unfolding stop_of
-  stop_none r n e = rw e
+  stop_none r n e = ap (λ (o : Option ℕ). get_or o n) e
 
   stop_some : (r n j : ℕ) → second_of R T r n ≡ some j → stop_of R T r n ≡ j
   unfolding stop_of
-  stop_some r n j e = rw e
+  stop_some r n j e = ap (λ (o : Option ℕ). get_or o n) e
 
   pub none_yet : (r : ℕ) → second_of R T r 0 ≡ none
   unfolding least
