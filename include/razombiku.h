@@ -1,7 +1,7 @@
 /*
  * Razombiku: judging the trace of one fork-join job, run depth first on one worker.
  *
- * Five calls over job files. Link target/staticlib/libexports.a, which `rt staticlib exports` makes.
+ * Five calls over job files. Link crates/exports/out/libexports.a, which `rt lib` makes in crates/exports.
  *
  * - A call takes any bytes and any numbers: it answers, or it refuses by a number (below).
  * - Each pointer and length is one block: the pointer, which must not be null, and how many elements (not bytes) may be used from it.

@@ -2,6 +2,8 @@
 //
 // include/razombiku.h says what each number means. In C a slice is a pointer and a length, and an
 // array of the answer is a plain pointer. No call has a `requires`, and none keeps what it was lent.
+#![tactic(auto)]
+
 ghost use Rattle.std.specs.Prelude.{◌≡◌, ◌≤◌};
 ghost use Rattle.jobfile.specs.Lent.{was, is};
 ghost use Rattle.jobfile.specs.File.{check_of, event_count};

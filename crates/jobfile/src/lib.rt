@@ -3,6 +3,8 @@
 // Every byte string is dealt with: a file is accepted, or refused by its number. The calls on a
 // file have no `requires`; two steps lent to the crates above have one, with its reason. Nothing
 // here writes to a caller's buffer.
+#![tactic(auto)]
+
 mod coding;
 mod event;
 mod refusal;

@@ -1,6 +1,6 @@
 -- The demands themselves reject each idler, whatever its contract says: on 01's whole file, whose events 3 and 6 race on record 1. Assumes
 -- nothing.
-use mathlib.Core.Path.{◌≡◌, refl, sym, subst, ap, ◌∙◌}
+use mathlib.Core.Path.{◌≡◌, refl, sym, subst, ◌∙◌}
 use mathlib.Core.Logic.{◌≢◌}
 use mathlib.Core.List.{List}
 use Prim.Native.Nat.{ℕ, ◌≤◌}
@@ -24,7 +24,7 @@ use Rattle.taking.specs.Buffers.{Buffers}
 use Rattle.judging.specs.declared.Answer.{Answer}
 use Rattle.judging.specs.declared.Answer.TheVariants.{Clean, Race, Refused}
 use Rattle.judging.specs.Answers.{judged_of, numbers_of}
-use Rattle.judging.specs.Terms.{events_in, moves_in, SaysClean, CountStep}
+use Rattle.judging.specs.Terms.{events_in, SaysClean, CountStep}
 use Rattle.judging.proofs.WholeFile.{job, accepted, part, part_is}
 use Rattle.judging.proofs.Demands.{Demand2, Demand3}
 

@@ -1,6 +1,8 @@
 // Judging: the race that the rules name, and both orders kept as the events come.
 //
 // Every byte string, every k and buffers of any length are dealt with. A refusal stores nothing.
+#![tactic(auto)]
+
 ghost use Rattle.std.specs.Prelude.{◌≡◌, length, ◌≤◌};
 ghost use Rattle.jobfile.specs.Lent.{was};
 ghost use Rattle.judging.specs.Answers.{judge_fault, judged_of};

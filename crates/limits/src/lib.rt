@@ -1,4 +1,5 @@
 // 01's limits, the lengths of the work buffers, where their parts begin, and what stands for none: each such number of the code, once.
+#![tactic(auto)]
 
 // Records of a job, and strands: each has an entry in every part of the work buffers.
 pub const RECORDS: usize = 4096;

@@ -1,6 +1,6 @@
 -- What the call lists, record by record: exactly the records on which the first k events hold a race, rising, each with the pair that the
 -- rules name within it; what it leaves in the places; and that `judge` gives the pair with the smallest second. Assumes nothing.
-use mathlib.Core.Path.{◌≡◌, refl, sym, ◌∙◌, subst}
+use mathlib.Core.Path.{◌≡◌, refl, ◌∙◌, subst}
 use mathlib.Core.List.{List}
 use mathlib.Core.Bool.{false}
 use Prim.Native.Nat.{ℕ, ◌≤◌, ◌<◌}

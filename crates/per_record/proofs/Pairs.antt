@@ -10,7 +10,7 @@ use Rattle.jobfile.specs.declared.event.Event.{Event}
 use Rattle.jobfile.specs.declared.event.Kind.{Kind}
 use Rattle.jobfile.specs.declared.event.Kind.TheVariants.{Write, Read}
 use Rattle.races.specs.Places.{held, finds, found_class, first_of, given, found}
-use Rattle.races.specs.Records.{pair, raced, second_of, stop_of, pair_of}
+use Rattle.races.specs.Records.{raced, second_of, stop_of, pair_of}
 use Rattle.races.specs.Shown.{Shown}
 use Rattle.races.specs.Mark.{rank, rules, layout, event_trace}
 use Rattle.races.proofs.Search.{Least, least_is}

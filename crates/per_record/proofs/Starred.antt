@@ -2,7 +2,7 @@
 use mathlib.Core.Path.{◌≡◌, refl}
 use mathlib.Core.List.{List, [], ◌∷◌, map}
 use Prim.Native.Nat.{ℕ}
-use lib.ListN.{length, set}
+use lib.ListN.{length}
 use Rattle.jobfile.specs.Trace.{tasks_at, begun_at}
 use Rattle.jobfile.specs.Samples.{listed as events, starred as cases}
 use Rattle.jobfile.specs.declared.event.Event.{Event}
@@ -18,7 +18,6 @@ use Rattle.races.specs.Records.{races, raced, pair_of}
 use Rattle.per_record.specs.Lists.{Lists}
 use Rattle.per_record.specs.Listed.{pairs_below, entered_below, listed}
 use Rattle.per_record.specs.Answers.{judged_all}
-use Rattle.per_record.specs.declared.Answer.{Answer}
 use Rattle.per_record.specs.declared.Answer.TheVariants.{Judged}
 
 -- lists of three entries that hold 9

@@ -1,6 +1,8 @@
 // Every record's own race: the run goes on past each of them, and three lists take the raced records in record order.
 //
 // Every byte string, every k and buffers and lists of any length are dealt with. A refusal stores nothing.
+#![tactic(auto)]
+
 ghost use Rattle.std.specs.Prelude.{◌≡◌, ℕ, ◌+◌, ◌*◌, ◌≤◌, ◌<◌, length};
 ghost use Rattle.jobfile.specs.Lent.{was, is};
 ghost use Rattle.jobfile.specs.File.{check_of};

@@ -8,19 +8,17 @@ use mathlib.Core.Option.{Option, none, some}
 use Prim.Native.Nat.{ℕ, suc, ◌<◌}
 use native.Mathlib.Omega.{arith}
 use lib.Dec.{eqb}
-use lib.ListN.{get_or}
 use borrow.Author.Tests.{eqb-true, eqb-false, eq-eqb, ne_eqb}
 use Rattle.races.specs.Trace.{access, Trace, on_record, is_of, class_of}
 use Rattle.races.specs.Rules.{Rules}
 use Rattle.races.specs.Places.{holds, stood, par_to, in_class, held, finds, found_class, first_in, first_of, found}
-use Rattle.races.specs.Records.{stop_of}
 use Rattle.races.specs.Entries.{put, Layout, HasPlace}
 use Rattle.races.specs.Shown.{Names, NamesNone, shown_at, Facing, Accessed}
 use Rattle.races.proofs.Search.{Least, least_is, least_only}
 use Rattle.races.proofs.Standing.{holds_some}
 use Rattle.races.proofs.Found.{together, of_is, found_by, finding_first}
 use Rattle.races.proofs.Entries.{holding_same, holding_put}
-use Rattle.races.proofs.Places.{stood_new, stood_last, stood_old, held_next, held_off, stop_none, racing_stays, clean_follows, elsewhere_stays}
+use Rattle.races.proofs.Places.{stood_new, stood_last, stood_old, held_next, held_off, clean_follows, elsewhere_stays}
 
 guarded : (x a b : Bool) → (x ≡ true → a ≡ b) → (x && a) ≡ (x && b)
 guarded true a b f = f refl

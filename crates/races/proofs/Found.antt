@@ -12,7 +12,7 @@ use Rattle.races.specs.Trace.{Act, other, access, Trace, Lawful, on_record, is_o
 use Rattle.races.specs.Rules.{Rules, Fit}
 use Rattle.races.specs.Places.{holds, par_to, in_class, held, finds, found_class, first_in, first_of, given, found}
 use Rattle.races.specs.Records.{races, raced, second_of}
-use Rattle.races.proofs.Search.{below, not-true, true_together, any_finds, any_has, Least, least_is, least_only}
+use Rattle.races.proofs.Search.{not-true, true_together, any_finds, any_has, Least, least_is, least_only}
 use Rattle.races.proofs.Standing.{holds_some, AllBefore, place_speaks, held_below}
 
 pub together : {a b : Bool} → a ≡ true → b ≡ true → (a && b) ≡ true

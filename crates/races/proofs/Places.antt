@@ -1,7 +1,6 @@
 -- What an event makes of a record's places: nothing if it is no access of the record, if the record has raced, or if it is the second of
 -- the record's race; otherwise its own class's place follows the rule. Assumes nothing.
 use mathlib.Core.Path.{◌≡◌, refl, sym, ◌∙◌}
-use mathlib.Core.Logic.{◌≢◌}
 use mathlib.Core.Bool.{Bool, true, false, cond, false≢true}
 use mathlib.Core.Option.{Option, none, some}
 use Prim.Native.Nat.{ℕ, suc}

@@ -1,12 +1,11 @@
 -- The buffer from event to event, for whoever runs over a trace: at the start, past an event that is no access, past an access of a record
 -- that has raced; what the engine reads in it; and that no second contents fit. Assumes nothing.
-use mathlib.Core.Path.{◌≡◌, refl, sym, ap, ◌∙◌}
+use mathlib.Core.Path.{◌≡◌, refl, ap, ◌∙◌}
 use mathlib.Core.Logic.{◌⊎◌, inl, inr, ◌≢◌}
 use mathlib.Core.List.{List}
 use mathlib.Core.Bool.{Bool, false}
 use mathlib.Core.Option.{Option, none, some}
 use Prim.Native.Nat.{ℕ, suc, ◌+◌, ◌<◌}
-use native.Mathlib.Omega.{arith}
 use lib.ListN.{get_or}
 use Rattle.races.specs.Trace.{other, access, Trace, Lawful, on_record}
 use Rattle.races.specs.Rules.{Rules, Fit}

@@ -1,6 +1,6 @@
 -- What the mark `VJT1` says: the two kinds of access as classes, the rules of the places, where the lent buffer has them, and how a trace
 -- of events is read.
-use Rattle.std.specs.Prelude.{Bool, true, false, ◌||◌, ℕ, zero, suc, ◌+◌, ◌*◌, eqb}
+use Rattle.std.specs.Prelude.{Bool, false, ◌||◌, ℕ, zero, suc, ◌+◌, ◌*◌, eqb}
 use Rattle.jobfile.specs.Events.{access_of}
 use Rattle.jobfile.specs.Trace.{moves}
 use Rattle.jobfile.specs.declared.event.Event.{Event}

@@ -1,9 +1,9 @@
 -- How a lent buffer shows the places just before event n, and what an access makes of it.
 use Rattle.std.specs.Prelude.{◌≡◌, ◌⊎◌, List, Bool, true, false, ◌&&◌, ℕ, suc, ◌<◌, length}
-use Rattle.std.proofs.Math.Option.{Option, none, some}
+use Rattle.std.proofs.Math.Option.{Option, none}
 use Rattle.races.specs.Trace.{Trace, Lawful, access}
 use Rattle.races.specs.Rules.{Rules, Fit}
-use Rattle.races.specs.Places.{holds, par_to, held, first_of}
+use Rattle.races.specs.Places.{holds, par_to, held}
 use Rattle.races.specs.Records.{second_of, stop_of}
 use Rattle.races.specs.Entries.{Layout, Laid, Holding}
 

@@ -1,5 +1,7 @@
 // The places of the records, the last write and the standing read of each, in a lent buffer: what an access finds there, once an engine
 // has said which of the two are parallel to it. No label and no set is known here. The theory of races stands in specs/ and proofs/.
+#![tactic(auto)]
+
 ghost use Rattle.std.specs.Prelude.{◌≡◌, false, cond, ◌+◌, ◌*◌, ◌<◌, ◌≤◌, length, get_or};
 ghost use Rattle.jobfile.specs.Lent.{was, is};
 ghost use Rattle.races.specs.Entries.{put, filled, Empty};

@@ -14,7 +14,7 @@ use Rattle.jobfile.specs.declared.event.Move.{Move}
 use Rattle.jobfile.proofs.Checking.{accepted}
 use Rattle.jobfile.proofs.Rows.{reading_exact}
 use Rattle.relation.specs.Parallel.{Rooted}
-use Rattle.relation.specs.Question.{Says, compare_of, question_of, answer_number, answer_refusal}
+use Rattle.relation.specs.Question.{Says, compare_of, question_of, answer_number}
 use Rattle.relation.specs.Rows.{asked_table, question_table}
 use Rattle.relation.specs.Gives.{Means, QuestionGives}
 use Rattle.relation.specs.declared.Related.{Related}

@@ -2,6 +2,8 @@
 //
 // Every byte string and every two numbers are dealt with: an answer, or a refusal by its number.
 // The public call has no `requires`, and nothing here writes to a caller's buffer.
+#![tactic(auto)]
+
 mod between;
 
 ghost use Rattle.std.specs.Prelude.{◌≡◌, ◌&&◌, ◌<◌, ltb};

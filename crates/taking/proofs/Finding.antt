@@ -2,7 +2,7 @@
 use mathlib.Core.Path.{◌≡◌, refl, sym, ap, ◌∙◌}
 use mathlib.Core.List.{List}
 use mathlib.Core.Bool.{Bool, true, false, false≢true}
-use mathlib.Core.Option.{Option, none, some}
+use mathlib.Core.Option.{none, some}
 use Prim.Native.Nat.{ℕ, ◌+◌, ◌-◌, ◌≤◌, ◌<◌}
 use native.Mathlib.Omega.{arith}
 use Rattle.jobfile.specs.Events.{access_of}
@@ -15,11 +15,10 @@ use Rattle.strands.specs.declared.Now.{Now}
 use Rattle.races.specs.Trace.{record_of}
 use Rattle.races.specs.Places.{given, found_class, first_of}
 use Rattle.races.specs.Records.{second_of}
-use Rattle.races.specs.Mark.{rank, act_of, rules, two, event_trace}
+use Rattle.races.specs.Mark.{act_of, rules, event_trace}
 use Rattle.races.proofs.Mark.{none_told, read_none}
 use Rattle.taking.specs.Asking.{held_above}
 use Rattle.taking.specs.Turns.{Findable, FirstFound}
-use Rattle.taking.specs.declared.Found.{Found}
 use Rattle.taking.proofs.Asking.{on_its_record, current_labelled}
 use Rattle.taking.proofs.Turned.{written_class, read_class, nothing_first}
 

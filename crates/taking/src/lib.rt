@@ -1,5 +1,7 @@
 // One event of a run: what an access finds at its record's places, by the labels, and the strand that any other event may begin. And the
 // run of such events up to the next race.
+#![tactic(auto)]
+
 ghost use Rattle.std.specs.Prelude.{◌≡◌, ◌+◌, ◌*◌, ◌<◌, ◌≤◌, length};
 ghost use Rattle.jobfile.specs.Lent.{was};
 ghost use Rattle.strands.specs.Memory.{tasks};

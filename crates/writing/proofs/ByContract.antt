@@ -4,7 +4,7 @@ use mathlib.Core.Path.{◌≡◌, refl, sym, ◌∙◌}
 use mathlib.Core.List.{List, ◌++◌}
 use native.Mathlib.Omega.{arith}
 use lib.ListN.{length, take, drop}
-use Rattle.jobfile.specs.File.{check_of, event_part, record_count, refusal_number as read_number}
+use Rattle.jobfile.specs.File.{event_part, record_count, refusal_number as read_number}
 use Rattle.jobfile.specs.Rows.{job_in}
 use Rattle.jobfile.specs.Gives.{CheckGives}
 use Rattle.jobfile.specs.declared.Checked.{Checked}

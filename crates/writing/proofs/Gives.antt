@@ -4,7 +4,7 @@ use mathlib.Core.Path.{◌≡◌, refl}
 use mathlib.Core.List.{List}
 use native.Mathlib.Omega.{arith}
 use lib.ListN.{length}
-use Rattle.writing.specs.Written.{written_file, write_of, out_after, WriteFits, refusal_number, bytes_written}
+use Rattle.writing.specs.Written.{write_of, out_after, WriteFits, refusal_number, bytes_written}
 use Rattle.writing.specs.Gives.{WriteGives}
 use Rattle.writing.specs.declared.Written.{Written}
 use Rattle.writing.specs.declared.Written.TheVariants.{Bytes, Refused}

@@ -179,13 +179,13 @@ mod tests {
     use super::*;
 
     const FILE: &str = "-- What it is for.
-use lib.ListN.{length, take as front}
-use Rattle·jobfile.specs.Events.{moveOf}
+use Rattle.std.specs.Prelude.{length, take as front}
+use Rattle.jobfile.specs.Events.{move_of}
 
 -- the events
 -- of a file
 abbrev pub moves : (ℕ → Event) → ℕ → Move
-moves ev n = moveOf (ev n)
+moves ev n = move_of (ev n)
 
 pub data Act : Type 0 where
   other : Act
@@ -230,7 +230,7 @@ law n = hidden n
         assert_eq!(moves.said, "the events of a file");
         assert_eq!(moves.statement, ["ℕ", "→", "Event", "→", "ℕ", "→", "Move"]);
         assert_eq!(moves.clauses[0].patterns, ["ev", "n"]);
-        assert_eq!(moves.clauses[0].words, ["moveOf", "ev", "n"]);
+        assert_eq!(moves.clauses[0].words, ["move_of", "ev", "n"]);
         assert_eq!(item(&source, "begun").clauses.len(), 2);
         assert_eq!(item(&source, "begun").text[2], "begun (suc n) = begun n + begins (mv n)");
         assert_eq!(item(&source, "begun").clauses[1].words, ["begun", "n", "+", "begins", "n"]);

@@ -137,7 +137,7 @@ mod tests {
     use crate::source;
 
     fn sources() -> Sources {
-        let specs = "use lib.ListN.{length}
+        let specs = "use Rattle.std.specs.Prelude.{length}
 pub data Act : Type 0 where
   other : Act
 abbrev pub low : Act → ℕ
@@ -151,16 +151,16 @@ deep n = low n
 abbrev pub unused : ℕ → ℕ
 unused n = n
 ";
-        let proofs = "use Rattle·one·specs.specs.Defs.{deep, shadow}
-pub deep-is : (n : ℕ) → deep n ≡ shadow n
-deep-is n = refl
+        let proofs = "use Rattle.one.specs.Defs.{deep, shadow}
+pub deep_is : (n : ℕ) → deep n ≡ shadow n
+deep_is n = refl
 ";
-        let code = "ghost use Rattle·one·specs.specs.Defs.{middle, unused};
+        let code = "ghost use Rattle.one.specs.Defs.{middle, unused};
 pub fn call(x: u8) -> u8
-    ensures { λ r. ⌜ r ≡ middle x ⌝ }
+    ensures { result ≡ middle x }
 { x }
 pub fn step(x: u8)
-    requires { ⌜ unused x ⌝ }
+    requires { unused x }
 { }
 ";
         let files = [("one/specs/Defs.antt", specs), ("one/proofs/Laws.antt", proofs), ("one/src/lib.rt", code)];
@@ -180,7 +180,7 @@ pub fn step(x: u8)
     #[test]
     fn a_theorem_stands_for_what_it_ties() {
         let deep = Key::new("one/specs/Defs.antt", "deep");
-        let law = Key::new("one/proofs/Laws.antt", "deep-is");
+        let law = Key::new("one/proofs/Laws.antt", "deep_is");
         assert_eq!(reached(&BTreeMap::from([(deep, vec![law])])), "deep middle shadow");
     }
 
@@ -192,13 +192,13 @@ pub fn step(x: u8)
             found.reached.keys().map(|key| key.name.clone()).collect::<Vec<_>>().join(" ")
         };
         assert_eq!(of("one/specs/Defs.antt", "low"), "Act low");
-        assert_eq!(of("one/proofs/Laws.antt", "deep-is"), "Act deep low shadow");
+        assert_eq!(of("one/proofs/Laws.antt", "deep_is"), "Act deep low shadow");
         assert_eq!(of("one/specs/Defs.antt", "*"), "Act deep low middle shadow unused");
     }
 
     #[test]
     fn the_toolchain_is_outside() {
         let found = closure(&sources(), &Roots { contracts: true, items: Vec::new() }, &BTreeMap::new());
-        assert_eq!(found.outside["lib.ListN"], BTreeSet::from(["length".to_string()]));
+        assert_eq!(found.outside["Rattle.std.specs.Prelude"], BTreeSet::from(["length".to_string()]));
     }
 }

@@ -191,11 +191,11 @@ Words.
 
 #### specs/Defs.antt
 
-- `par` by `walk-is`, `walk-on` (one/proofs/A.antt), `b` (one/proofs/B.antt): what `it` says (not)
+- `par` by `walk_is`, `walk_on` (one/proofs/A.antt), `b` (one/proofs/B.antt): what `it` says (not)
 
 ## Vocabulary
 
-- `lib.Gone`: `x`
+- `Rattle.std.specs.Gone`: `x`
 
 The end.
 ";
@@ -211,9 +211,9 @@ The end.
             [Key::new("one/specs/Defs.antt", "kept"), Key::new("one/specs/Defs.antt", "gone")]
         );
         let a = |name| Key::new("one/proofs/A.antt", name);
-        let theorems = vec![a("walk-is"), a("walk-on"), Key::new("one/proofs/B.antt", "b")];
+        let theorems = vec![a("walk_is"), a("walk_on"), Key::new("one/proofs/B.antt", "b")];
         assert_eq!(document.tied, [(Key::new("one/specs/Defs.antt", "par"), theorems)]);
-        assert_eq!(document.vocabulary, ["lib.Gone"]);
+        assert_eq!(document.vocabulary, ["Rattle.std.specs.Gone"]);
     }
 
     #[test]
@@ -223,15 +223,15 @@ The end.
         let key = |name| (Key::new("one/specs/Defs.antt", name), String::new());
         let closure = Closure {
             reached: [key("kept"), key("added"), key("par")].into(),
-            outside: [("lib.ListN".to_string(), BTreeSet::from(["length".to_string()]))].into(),
+            outside: [("Rattle.std.specs.Prelude".to_string(), BTreeSet::from(["length".to_string()]))].into(),
         };
         let made = filled(TEXT, &sources, &closure, &["one".to_string()]);
         assert!(made.contains(
             "Words.\n\n### one\n\n#### specs/Defs.antt\n\n- `kept`: comment\n- `added`: the added one\n\n## Tied"
         ));
         assert!(!made.contains("`gone`"));
-        assert!(made.contains("- `par` by `walk-is`"));
-        assert!(made.contains("- `lib.ListN`: `length`\n") && !made.contains("lib.Gone"));
+        assert!(made.contains("- `par` by `walk_is`"));
+        assert!(made.contains("- `Rattle.std.specs.Prelude`: `length`\n") && !made.contains("Rattle.std.specs.Gone"));
         assert_eq!(filled(&made, &sources, &closure, &["one".to_string()]), made);
     }
 

@@ -62,12 +62,15 @@ fn crates(root: &Path) -> Result<Vec<String>, String> {
     let path = root.join("crates.txt");
     let text = fs::read_to_string(&path).map_err(|wrong| format!("{}: {wrong}", path.display()))?;
     let name = |line: &str| {
-        line.split('#').next().and_then(|line| line.split_once(':')).map(|(name, _)| name.trim().to_string())
+        let head = line.split('#').next()?.split_once(':')?.0;
+        // behind the name may stand what kind of crate it is
+        head.split_whitespace().next().map(str::to_string)
     };
     Ok(text.lines().filter_map(name).collect())
 }
 
-/// Every file of code and of antt below a folder, but not the proofs of functions, by its path below `crates/`.
+/// Every file of code and of antt below a folder, but not the proofs of functions, which have folders in proofs/, nor what the toolchain
+/// made, by its path below `crates/`.
 fn read_folder(folder: &Path, below: &str, sources: &mut Sources) -> Result<(), String> {
     let wrong = |wrong: std::io::Error| format!("{}: {wrong}", folder.display());
     for found in fs::read_dir(folder).map_err(wrong)? {
@@ -75,8 +78,10 @@ fn read_folder(folder: &Path, below: &str, sources: &mut Sources) -> Result<(), 
         let name = path.file_name().unwrap_or_default().to_string_lossy().into_owned();
         let file = format!("{below}/{name}");
         if path.is_dir() {
-            read_folder(&path, &file, sources)?;
-        } else if name != "Proof.antt" && (name.ends_with(".antt") || name.ends_with(".rt")) {
+            if name != "out" && !below.ends_with("/proofs") {
+                read_folder(&path, &file, sources)?;
+            }
+        } else if name.ends_with(".antt") || name.ends_with(".rt") {
             let text = fs::read_to_string(&path).map_err(|wrong| format!("{}: {wrong}", path.display()))?;
             sources.insert(file.clone(), source(&file, &text));
         }

@@ -1,7 +1,7 @@
 //! What a word of a file names, by the file's own items and its `use` lines.
 
 use crate::rattle::CODE;
-use crate::{Key, Source, Use};
+use crate::{Item, Key, Kind, Source, Use};
 use std::collections::BTreeMap;
 
 pub type Sources = BTreeMap<String, Source>;
@@ -30,7 +30,9 @@ impl<'a> Names<'a> {
                     names.target(file, &line.path, name).map(|target| scope.insert(local.clone(), target));
                 }
             }
-            for item in &source.items {
+            // no clause names a function: a definition that is in scope may have its name
+            let is_named = |item: &&Item| ![Kind::Call, Kind::Step].contains(&item.kind);
+            for item in source.items.iter().filter(is_named) {
                 let key = Key::new(file, &item.name);
                 scope.extend(item.makes.iter().map(|made| (made.clone(), Target::Maker(key.clone()))));
                 scope.insert(item.name.clone(), Target::Item(key));
@@ -40,20 +42,22 @@ impl<'a> Names<'a> {
         names
     }
 
-    /// What a word names in a file; an operator is named with its places.
+    /// What a word names in a file; an operator is named with its places, and a projection `x.field` names what `x` does.
     pub fn resolve(&self, file: &str, word: &str) -> Option<Target> {
         let scope = self.scopes.get(file)?;
-        if let Some(target) = scope.get(word).or_else(|| scope.get(&format!("_{word}_"))) {
+        if let Some(target) = scope.get(word).or_else(|| scope.get(&format!("◌{word}◌"))) {
             return Some(target.clone());
         }
         if let Some((path, name)) = word.rsplit_once("::") {
             let path: Vec<String> = std::iter::once(CODE).chain(path.split("::")).map(str::to_string).collect();
             return self.target(file, &path, name);
         }
-        let (module, name) = word.split_once('.')?;
-        let is_it = |line: &&Use| line.alias.as_deref() == Some(module);
-        let line = self.sources.get(file)?.uses.iter().find(is_it)?;
-        self.target(file, &line.path, name)
+        let (head, name) = word.split_once('.')?;
+        let is_it = |line: &&Use| line.alias.as_deref() == Some(head);
+        match self.sources.get(file)?.uses.iter().find(is_it) {
+            Some(line) => self.target(file, &line.path, name),
+            None => scope.get(head).cloned(),
+        }
     }
 
     fn target(&self, file: &str, path: &[String], name: &str) -> Option<Target> {
@@ -61,15 +65,14 @@ impl<'a> Names<'a> {
             return self.type_of(file, &path[1..], name, 4).map(Target::Item);
         }
         let outside = || Some(Target::Outside(path.join("."), name.to_string()));
-        let Some(own) = path[0].strip_prefix("Rattle·") else { return outside() };
-        let in_crate = own.split('·').next().unwrap_or(own);
-        if !self.has_crate(in_crate) {
+        let [first, in_crate, within @ ..] = path else { return outside() };
+        if first != "Rattle" || !self.has_crate(in_crate) {
             return outside();
         }
-        if path.get(2).is_some_and(|part| part == "declared") {
-            return self.declared(in_crate, &path[3..], name);
+        if within.get(1).is_some_and(|part| part == "declared") {
+            return self.declared(in_crate, &within[2..], name);
         }
-        let file = format!("{in_crate}/{}.antt", path[1..].join("/"));
+        let file = format!("{in_crate}/{}.antt", within.join("/"));
         let source = self.sources.get(&file)?;
         if source.item(name).is_some() {
             return Some(Target::Item(Key::new(&file, name)));
@@ -78,9 +81,9 @@ impl<'a> Names<'a> {
         Some(Target::Maker(Key::new(&file, &owner.name)))
     }
 
-    /// `declared.event.Kind.{Kind}`, or `declared.event.Kind.the-variants.{Read}`: a type of src/event.rt.
+    /// `declared.event.Kind.{Kind}`, or `declared.event.Kind.TheVariants.{Read}`: a type of src/event.rt.
     fn declared(&self, in_crate: &str, path: &[String], name: &str) -> Option<Target> {
-        let variants = path.last().is_some_and(|part| part == "the-variants");
+        let variants = path.last().is_some_and(|part| part == "TheVariants");
         let path = &path[..path.len() - usize::from(variants)];
         let (of, modules) = path.split_last()?;
         let key = Key::new(&self.code_file(in_crate, modules)?, of);
@@ -127,15 +130,19 @@ mod tests {
 
     fn sources() -> Sources {
         let files = [
-            ("low/specs/Acts.antt", "pub data Act : Type 0 where\n  other : Act\nabbrev pub _∪_ : ℕ → ℕ\n"),
+            ("low/specs/Acts.antt", "pub data Act : Type 0 where\n  other : Act\nabbrev pub ◌∪◌ : ℕ → ℕ\n"),
             (
                 "high/specs/Top.antt",
-                "use Rattle·low.specs.Acts.{Act, other as none, _∪_}\nuse Rattle·low.specs.declared.event.Kind.the-variants.{Read}
-use Rattle·low.specs.declared.Job.{Job}\nuse Rattle·io.specs.Counts.{Counts}\nuse Rattle·low.specs.Acts as acts\n",
+                "use Rattle.low.specs.Acts.{Act, other as none, ◌∪◌}\nuse Rattle.low.specs.declared.event.Kind.TheVariants.{Read}
+use Rattle.low.specs.declared.Job.{Job}\nuse Rattle.std.specs.Prelude.{length}\nuse Rattle.low.specs.Acts as acts\n",
             ),
-            ("low/src/lib.rt", "mod event;\npub use event::Kind;\npub struct Job {\n    pub kind: Kind,\n}\n"),
+            ("low/src/lib.rt", "mod event;\npub use event::{Kind, made};\npub struct Job {\n    pub kind: Kind,\n}\n"),
             ("low/src/event.rt", "pub enum Kind {\n    Read,\n}\n"),
-            ("high/src/lib.rt", "use low::Kind;\npub enum Answer {\n    To(Kind),\n}\n"),
+            (
+                "high/src/lib.rt",
+                "ghost use Rattle.low.specs.Acts.{other as kind};\nuse low::Kind;\npub enum Answer {\n    To(Kind),\n}
+pub fn kind() -> u8\n    ensures { result ≡ kind }\n{\n}\n",
+            ),
         ];
         files.into_iter().map(|(file, text)| (file.to_string(), source(file, text))).collect()
     }
@@ -147,10 +154,11 @@ use Rattle·low.specs.declared.Job.{Job}\nuse Rattle·io.specs.Counts.{Counts}\n
         let of = |word| names.resolve("high/specs/Top.antt", word);
         assert_eq!(of("Act"), Some(Target::Item(Key::new("low/specs/Acts.antt", "Act"))));
         assert_eq!(of("none"), Some(Target::Maker(Key::new("low/specs/Acts.antt", "Act"))));
-        assert_eq!(of("∪"), Some(Target::Item(Key::new("low/specs/Acts.antt", "_∪_"))));
+        assert_eq!(of("∪"), Some(Target::Item(Key::new("low/specs/Acts.antt", "◌∪◌"))));
         assert_eq!(of("acts.Act"), of("Act"));
+        assert_eq!(of("Act.field"), of("Act"));
         assert_eq!(of("other"), None);
-        assert_eq!(of("Counts"), Some(Target::Outside("Rattle·io.specs.Counts".into(), "Counts".into())));
+        assert_eq!(of("length"), Some(Target::Outside("Rattle.std.specs.Prelude".into(), "length".into())));
     }
 
     #[test]
@@ -163,5 +171,13 @@ use Rattle·low.specs.declared.Job.{Job}\nuse Rattle·io.specs.Counts.{Counts}\n
         assert_eq!(names.resolve("low/src/lib.rt", "Kind"), Some(Target::Item(kind.clone())));
         assert_eq!(names.resolve("high/src/lib.rt", "Kind"), Some(Target::Item(kind.clone())));
         assert_eq!(names.resolve("high/src/lib.rt", "low::Kind"), Some(Target::Item(kind)));
+    }
+
+    #[test]
+    fn a_clause_names_no_function() {
+        let sources = sources();
+        let names = Names::new(&sources);
+        let act = Key::new("low/specs/Acts.antt", "Act");
+        assert_eq!(names.resolve("high/src/lib.rt", "kind"), Some(Target::Maker(act)));
     }
 }

@@ -41,12 +41,13 @@ fn said(lines: &[&str], at: usize) -> String {
     above.into_iter().rev().filter(|line| !line.starts_with("requires:")).collect::<Vec<_>>().join(" ")
 }
 
-/// `use a::b::C;`
+/// `use a::b::C;`, or `use a::b::{C, d};`
 fn code_use(line: &str) -> Option<Use> {
     let path = line.strip_prefix("use ")?.trim_end_matches(';');
-    let (path, name) = path.rsplit_once("::")?;
+    let (path, names) = path.split_once("::{").or_else(|| path.rsplit_once("::"))?;
     let parts = std::iter::once(CODE).chain(path.split("::")).map(str::to_string).collect();
-    Some(Use { path: parts, names: vec![(name.to_string(), name.to_string())], alias: None })
+    let names = names.trim_end_matches('}').split(',').map(|name| name.trim().to_string());
+    Some(Use { path: parts, names: names.map(|name| (name.clone(), name)).collect(), alias: None })
 }
 
 /// What stands between the brackets that open at the start of `text`, and how long both are with it.
@@ -74,20 +75,25 @@ fn call(text: &str, said: String) -> Option<Item> {
     let mut rest = &text[open + length..];
     let (mut kind, mut statement) = (Kind::Call, Vec::new());
     while let Some(brace) = rest.find('{') {
-        let before = rest[..brace].trim_end();
-        if before.ends_with("requires") {
-            kind = Kind::Step;
-        } else if !before.ends_with("ensures") {
-            break;
+        match clause_word(&rest[..brace]) {
+            Some("requires") => kind = Kind::Step,
+            Some(_) => {}
+            None => break,
         }
         let (clause, length) = within(&rest[brace..], '{', '}')?;
         let all = words(clause);
         let mut names = bound(&all);
         names.extend(parameters.iter().cloned());
+        names.insert("result".to_string());
         statement.extend(cited(&all, &names));
         rest = &rest[brace + length..];
     }
     Some(Item { name, kind, said, text: Vec::new(), statement, clauses: Vec::new(), makes: Vec::new() })
+}
+
+/// The word that a clause begins with, from what stands before its bracket: `requires`, or `ensures name`.
+fn clause_word(before: &str) -> Option<&str> {
+    before.split_whitespace().rev().take(2).find(|word| ["requires", "ensures"].contains(word))
 }
 
 fn parameter_names(parameters: &str) -> BTreeSet<String> {
@@ -139,8 +145,8 @@ mod tests {
     use super::*;
 
     const FILE: &str = "// What it is for.
-ghost use Rattle·jobfile.specs.File.{checkOf};
-pub use coding::Decoded;
+ghost use Rattle.jobfile.specs.File.{check_of};
+pub use coding::{Decoded, decode};
 use jobfile::Refusal;
 
 // What comes back.
@@ -156,10 +162,10 @@ pub struct Job {
 }
 
 // Judges a file.
-#[no_mangle]
+#[unsafe(no_mangle)]
 pub extern \"C\" fn judge(file: &[u8], first: u64) -> Answer
-    ensures { λ r. ⌜ r ≡ judgeOf (was file) first ⌝ }
-    ensures { λ r. ⌜ Fits r { x } ⌝ }
+    ensures value { result ≡ judge_of (was file) first }
+    ensures fits { Fits result.0 file.now { x } }
 {
     nothing(file)
 }
@@ -167,11 +173,11 @@ pub extern \"C\" fn judge(file: &[u8], first: u64) -> Answer
 // The same.
 // requires: a reason.
 pub fn step(file: &[u8])
-    requires { ⌜ Known (now file) ⌝ }
+    requires { Known file.now }
 {
 }
 
-fn hidden() ensures { ⌜ Hidden ⌝ } {}
+fn hidden() ensures { Hidden } {}
 ";
 
     #[test]
@@ -179,7 +185,7 @@ fn hidden() ensures { ⌜ Hidden ⌝ } {}
         let source = read(FILE);
         let judge = source.item("judge").unwrap();
         assert_eq!((judge.kind, judge.said.as_str()), (Kind::Call, "Judges a file."));
-        assert_eq!(judge.statement, ["≡", "judgeOf", "was", "Fits", "x"]);
+        assert_eq!(judge.statement, ["≡", "judge_of", "was", "Fits", "x"]);
         let step = source.item("step").unwrap();
         assert_eq!((step.kind, step.said.as_str()), (Kind::Step, "The same."));
         assert!(source.item("hidden").is_none());
@@ -192,6 +198,7 @@ fn hidden() ensures { ⌜ Hidden ⌝ } {}
         assert_eq!(source.item("Job").unwrap().statement, ["Mark"]);
         assert_eq!(source.item("Job").unwrap().text, ["Job", "start: usize", "first: Mark"]);
         assert_eq!(source.uses[1].path, [CODE, "coding"]);
+        assert_eq!(source.uses[1].names[1], ("decode".to_string(), "decode".to_string()));
         assert_eq!(source.uses[2].names, [("Refusal".to_string(), "Refusal".to_string())]);
     }
 }

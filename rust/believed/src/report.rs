@@ -104,16 +104,15 @@ two = three
 abbrev pub three : ℕ
 three = 3
 ";
-    const PROOFS: &str = "use Rattle·c·specs.specs.D.{one, two, three}
-pub two-is : two ≡ 3
-two-is = refl
-pub three-is : three ≡ 3
-three-is = refl
-pub two-as-one : two ≡ one
-two-as-one = refl
+    const PROOFS: &str = "use Rattle.c.specs.D.{one, two, three}
+pub two_is : two ≡ 3
+two_is = refl
+pub three_is : three ≡ 3
+three_is = refl
+pub two_as_one : two ≡ one
+two_as_one = refl
 ";
-    const CODE: &str =
-        "ghost use Rattle·c·specs.specs.D.{one};\npub fn f() -> u8\n    ensures { λ r. ⌜ r ≡ one ⌝ }\n{ 3 }\n";
+    const CODE: &str = "ghost use Rattle.c.specs.D.{one};\npub fn f() -> u8\n    ensures { result ≡ one }\n{ 3 }\n";
 
     fn told(believed: &str, tied: &str) -> String {
         let sources = Sources::from([
@@ -133,7 +132,7 @@ two-as-one = refl
     #[test]
     fn a_whole_document_has_no_fault() {
         assert_eq!(told("- `one`: 1\n- `two`: 2\n- `three`: 3", ""), "");
-        assert_eq!(told("- `one`: 1", "- `two` by `two-is` (c/proofs/P.antt): 3"), "");
+        assert_eq!(told("- `one`: 1", "- `two` by `two_is` (c/proofs/P.antt): 3"), "");
     }
 
     #[test]
@@ -146,18 +145,18 @@ two-as-one = refl
     #[test]
     fn what_is_too_much_is_told() {
         assert!(told("- `one`: 1\n- `two`: 2\n- `three`: 3\n- `four`: 4", "").contains("no such definition"));
-        assert!(told("- `one`: 1\n- `three`: 3", "- `two` by `two-is` (c/proofs/P.antt): 3")
+        assert!(told("- `one`: 1\n- `three`: 3", "- `two` by `two_is` (c/proofs/P.antt): 3")
             .contains("nothing leads to it"));
         assert!(told("- `one`: 1\n- `one`: 1\n- `two`: 2\n- `three`: 3", "").contains("listed twice"));
     }
 
     #[test]
     fn a_theorem_must_be_there_and_name_the_definition() {
-        assert!(told("- `one`: 1", "- `two` by `two-was` (c/proofs/P.antt): 3").contains("is not in c/proofs/P.antt"));
+        assert!(told("- `one`: 1", "- `two` by `two_was` (c/proofs/P.antt): 3").contains("is not in c/proofs/P.antt"));
         assert!(
-            told("- `one`: 1\n- `three`: 3", "- `two` by `three-is` (c/proofs/P.antt): 3").contains("does not name it")
+            told("- `one`: 1\n- `three`: 3", "- `two` by `three_is` (c/proofs/P.antt): 3").contains("does not name it")
         );
         assert!(told("- `one`: 1", "- `two`: 3").contains("by no theorem"));
-        assert!(told("- `one`: 1", "- `two` by `two-as-one` (c/proofs/P.antt): 3").contains("`one` leads back to it"));
+        assert!(told("- `one`: 1", "- `two` by `two_as_one` (c/proofs/P.antt): 3").contains("`one` leads back to it"));
     }
 }

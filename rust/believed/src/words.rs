@@ -65,14 +65,16 @@ pub fn bound(words: &[String]) -> BTreeSet<String> {
     names
 }
 
-/// The words that a piece of antt cites: no mark, no projection `.field`, no field of a record that it makes, and nothing that it binds.
+/// The words that a piece of antt cites: no mark, no projection `.field`, no field of a record that it makes, and nothing that it binds,
+/// nor a projection `x.field` of that.
 pub fn cited(words: &[String], bound: &BTreeSet<String>) -> Vec<String> {
     let mut found = Vec::new();
     for (i, word) in words.iter().enumerate() {
         let follows_mark = i > 0 && (words[i - 1] == "{" || words[i - 1] == ";");
         let is_field = follows_mark && words.get(i + 1).is_some_and(|w| w == "=");
         let is_binder = word.ends_with('.') && word.len() > 1;
-        if is_name(word) && !word.starts_with('.') && !is_field && !is_binder && !bound.contains(word) {
+        let head = word.split('.').next().unwrap_or(word);
+        if is_name(word) && !head.is_empty() && !is_field && !is_binder && !bound.contains(head) {
             found.push(word.clone());
         }
     }
@@ -91,19 +93,21 @@ mod tests {
     #[test]
     fn marks_comments_and_quotes() {
         assert_eq!(words("f (a∷b) \"take drop\" -- take\n-- drop\n⌜ x ⌝").join(" "), "f ( a∷b ) ⌜ x ⌝");
-        assert_eq!(words("reports-first a--b").join(" "), "reports-first a--b");
+        assert_eq!(words("reports_first a--b").join(" "), "reports_first a--b");
     }
 
     #[test]
     fn what_is_bound_is_not_cited() {
         assert_eq!(cites("(first n : ℕ) → below first n"), "ℕ → below");
-        assert_eq!(cites("Pairs (λ a b. labelIn L a < labelIn L b) ord"), "Pairs labelIn L < labelIn L ord");
+        assert_eq!(cites("Pairs (λ a b. label_in L a < label_in L b) ord"), "Pairs label_in L < label_in L ord");
         assert_eq!(cites("let x = f y in g x"), "let f y in g");
     }
 
     #[test]
     fn fields_are_not_cited() {
-        assert_eq!(cites("length (B .labels)"), "length B");
+        assert_eq!(cites("length (labels_of B).entries"), "length labels_of B");
+        assert_eq!(cites("(B : Buffers) → length B.labels"), "Buffers → length");
+        assert_eq!(cites("length long.labels"), "length long.labels");
         assert_eq!(cites("record { spot = λ r c. r; gap = 4096; classes = two }"), "record 4096 two");
     }
 }

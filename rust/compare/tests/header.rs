@@ -29,7 +29,7 @@ fn c_program_over_the_header() {
         .args(["-std=c99", "-pedantic", "-Wall", "-Wextra", "-Werror", "-I"])
         .arg(here.join("../../include"))
         .arg(here.join("tests/calls.c"))
-        .arg(here.join("../../target/staticlib/libexports.a"))
+        .arg(here.join("../../crates/exports/out/libexports.a"))
         .arg("-o")
         .arg(&program)
         .status()

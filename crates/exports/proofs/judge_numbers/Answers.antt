@@ -1,5 +1,4 @@
 -- `exports::judge_numbers` meets its contract: each arm gives the numbers of its case. Assumes nothing.
-use borrow.Author.Rules.{rules}
 use mathlib.Core.Path.{sym, ap}
 use Rattle.exports.specs.Numbers.{judge_numbers}
 use Rattle.exports.proofs.judge_numbers.Goals as goal

@@ -1,6 +1,5 @@
 -- `exports::read_numbers` meets its contract: each arm gives the numbers of its case. The count of events is at most 1,000,000, so four
 -- times it fits. Assumes nothing.
-use borrow.Author.Rules.{rules}
 use native.Mathlib.Omega.{arith}
 use mathlib.Core.Path.{sym, ap}
 use Rattle.exports.specs.Numbers.{read_numbers}

@@ -1,6 +1,5 @@
 -- `exports::rz_judge` meets its contract: the numbers are those of judging's answer, and that is the definition's; the buffers hold what
 -- judging leaves in them for it. Assumes nothing.
-use borrow.Author.Rules.{rules}
 use Rattle.exports.proofs.rz_judge.Goals as goal
 
 pub returns : goal.returns

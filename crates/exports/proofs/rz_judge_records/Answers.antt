@@ -1,6 +1,5 @@
 -- `exports::rz_judge_records` meets its contract: the numbers are those of the call's answer, and that is the definition's; the buffers and
 -- the lists hold what the call leaves in them for it. Assumes nothing.
-use borrow.Author.Rules.{rules}
 use Rattle.exports.proofs.rz_judge_records.Goals as goal
 
 pub returns : goal.returns

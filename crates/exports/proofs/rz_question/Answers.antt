@@ -1,6 +1,5 @@
 -- `exports::rz_question` meets its contract: the numbers are those of the question's answer, and that is the definition's.
 -- Assumes nothing.
-use borrow.Author.Rules.{rules}
 use mathlib.Core.Path.{ap, ◌∙◌}
 use Rattle.exports.specs.Numbers.{question_numbers}
 use Rattle.exports.proofs.rz_question.Goals as goal

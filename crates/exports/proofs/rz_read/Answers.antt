@@ -1,5 +1,4 @@
 -- `exports::rz_read` meets its contract: the numbers are those of the check's answer, and that is the definition's. Assumes nothing.
-use borrow.Author.Rules.{rules}
 use mathlib.Core.Path.{ap, ◌∙◌}
 use Rattle.exports.specs.Numbers.{read_numbers}
 use Rattle.exports.proofs.EventCounts.{few_events}

@@ -1,6 +1,5 @@
 -- `exports::rz_write` meets its contract: the numbers are those of the writer's answer, and that is the definition's, as is what the
 -- buffer holds. Assumes nothing.
-use borrow.Author.Rules.{rules}
 use Rattle.exports.proofs.rz_write.Goals as goal
 
 pub returns : goal.returns

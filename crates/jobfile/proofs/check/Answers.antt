@@ -3,7 +3,6 @@ use native.Mathlib.Omega.{arith}
 use mathlib.Core.Path.{sym, ◌∙◌}
 use Rattle.jobfile.proofs.Checking.{check_head, check_events}
 use Rattle.jobfile.proofs.Gives.{check_gives}
-use borrow.Author.Rules.{rules}
 use Rattle.jobfile.proofs.check.Goals as goal
 
 pub overflow_mul-end : goal.overflow_mul-end

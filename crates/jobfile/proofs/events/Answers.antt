@@ -2,7 +2,6 @@
 use native.Mathlib.Omega.{arith}
 use native.Mathlib.Nat.{add-sub_cancel_left, zero-add}
 use mathlib.Core.Path.{refl, sym, ◌∙◌}
-use borrow.Author.Rules.{rules}
 use Rattle.jobfile.proofs.events.Goals as goal
 
 pub overflow_mul-end : goal.overflow_mul-end

@@ -4,7 +4,6 @@ use native.Mathlib.Omega.{arith}
 use mathlib.Core.Path.{refl, sym, ◌∙◌}
 use native.Mathlib.Nat.{zero-add}
 use lib.Seq.{length-take-le}
-use borrow.Author.Rules.{rules}
 use Rattle.jobfile.proofs.name.Goals as goal
 
 pub slice_bounds-result-end : goal.slice_bounds-result-end

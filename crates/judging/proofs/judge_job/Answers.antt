@@ -10,8 +10,8 @@ use Rattle.judging.proofs.judge_job.Goals as goal
 pub returns-then-fault-ne0 : goal.returns-then-fault-ne0
 returns-then-fault-ne0 c = record {
   judged = judge_gives _ _ _ _ _
-    (rw c.refuse.ensures (judge_refused _ _ _ _ _ _ c.requires _ c.judge_fault-fault.ensures.value c.if-fault-ne0.true))
-    (search rules);
+      (rw c.refuse.ensures (judge_refused _ _ _ _ _ _ c.requires _ c.judge_fault-fault.ensures.value c.if-fault-ne0.true))
+      (search rules);
 }
 
 pub overflow_mul-end : goal.overflow_mul-end
@@ -37,6 +37,6 @@ run-requires-clause-in_bounds c =
 pub returns : goal.returns
 returns c = record {
   judged = judge_gives _ _ _ _ _
-    (judge_run _ _ _ _ _ _ c.requires _ _ c.judge_fault-fault.ensures.value c.if-fault-ne0.false c.run.ensures.value)
-    (leaves_run _ _ _ _ _ c.requires _ c.run.ensures.value c.run.ensures.shows);
+      (judge_run _ _ _ _ _ _ c.requires _ _ c.judge_fault-fault.ensures.value c.if-fault-ne0.false c.run.ensures.value)
+      (leaves_run _ _ _ _ _ c.requires _ c.run.ensures.value c.run.ensures.shows);
 }

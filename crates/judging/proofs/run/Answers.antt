@@ -1,9 +1,7 @@
 -- `run` meets its contract: it goes from the start to the first race or past all k events. Assumes nothing.
 use mathlib.Core.Path.{refl}
-use native.Mathlib.Omega.{arith}
 use Rattle.taking.specs.Buffers.{buffers}
 use Rattle.judging.proofs.Running.{starts, may_run, ends_clean, ends_raced, place_there}
-use borrow.Author.Rules.{rules}
 use Rattle.judging.proofs.run.Goals as goal
 
 pub clear-requires-clause-in_bounds : goal.clear-requires-clause-in_bounds

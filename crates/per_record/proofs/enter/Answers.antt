@@ -1,6 +1,5 @@
 -- `enter` meets its contract: a record without a mark is left out; one with a mark goes to entry n. Assumes nothing.
 use Rattle.per_record.proofs.Entering.{not_entered, is_entered}
-use borrow.Author.Rules.{rules}
 use Rattle.per_record.proofs.enter.Goals as goal
 
 pub returns-then-mark : goal.returns-then-mark

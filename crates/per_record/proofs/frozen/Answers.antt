@@ -1,5 +1,4 @@
 -- `frozen` meets its contract: an access of a marked record, as the event that was read says. Assumes nothing.
-use borrow.Author.Rules.{rules}
 use Rattle.per_record.proofs.Marking.{frozen_to, frozen_none, its_access}
 use Rattle.per_record.proofs.frozen.Goals as goal
 

@@ -1,7 +1,6 @@
 -- `go_on` meets its contract: past an access of a frozen record, to the end of the stretch, or past the race on the way. Assumes nothing.
 use native.Mathlib.Omega.{arith}
 use Rattle.per_record.proofs.Going.{has_mark, goes_past_frozen, may_run, goes_past_all, within_run, may_find, mark_there, goes_past_race}
-use borrow.Author.Rules.{rules}
 use Rattle.per_record.proofs.go_on.Goals as goal
 
 pub stretch-to-requires-clause-from_lt_k : goal.stretch-to-requires-clause-from_lt_k

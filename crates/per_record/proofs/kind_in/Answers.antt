@@ -1,5 +1,4 @@
 -- `kind_in` meets its contract: the test picks the case of the definition. Assumes nothing.
-use borrow.Author.Rules.{rules}
 use Rattle.per_record.proofs.Marking.{low_kind, high_kind}
 use Rattle.per_record.proofs.kind_in.Goals as goal
 

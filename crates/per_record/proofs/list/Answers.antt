@@ -1,9 +1,5 @@
 -- `list` meets its contract. The invariant: the records below r are entered, and n of them have a pair. Assumes nothing.
-use Prim.Native.Nat.{◌≤◌, ◌-◌}
-use mathlib.Core.Path.{◌≡◌}
 use native.Mathlib.Omega.{arith}
-use Rattle.per_record.specs.Listed.{pairs_below, entered_below}
-use Rattle.per_record.specs.Marks.{pair_held}
 use Rattle.per_record.proofs.Entering.{none_counted, none_listed, counted, listed_more, room_left, lengths_left, all_entered}
 use Rattle.per_record.proofs.list.Goals as goal
 
@@ -28,12 +24,11 @@ loop-r-smaller c =
     omega arith
 
 pub loop-r-preserved : goal.loop-r-preserved
-loop-r-preserved c =
-    (
-      omega (arith, c.loop-r-test.true),
-      counted _ _ _ _ c.loop-r.invariant.1 c.enter-n.ensures.value,
-      listed_more _ _ _ _ _ _ c.loop-r.invariant.1 c.loop-r.invariant.2 c.enter-n.ensures.seconds_value,
-    )
+loop-r-preserved c = (
+  omega (arith, c.loop-r-test.true),
+  counted _ _ _ _ c.loop-r.invariant.1 c.enter-n.ensures.value,
+  listed_more _ _ _ _ _ _ c.loop-r.invariant.1 c.loop-r.invariant.2 c.enter-n.ensures.seconds_value,
+)
 
 pub shape_of-records : goal.shape_of-records
 shape_of-records c =

@@ -1,10 +1,8 @@
 -- `list` meets its contract. The invariant: the records below r are entered, and n of them have a pair. Assumes nothing.
 use Prim.Native.Nat.{◌≤◌, ◌-◌}
 use mathlib.Core.Path.{◌≡◌}
-use native.Mathlib.Omega.{arith}
 use Rattle.per_record.specs.Listed.{pairs_below, entered_below}
 use Rattle.per_record.specs.Marks.{pair_held}
-use Rattle.per_record.proofs.Entering.{none_counted, none_listed, counted, listed_more, room_left, lengths_left, all_entered}
 use Rattle.per_record.proofs.list.Given as goal
 
 abbrev pub invariant-loop-r : goal.invariant-loop-r

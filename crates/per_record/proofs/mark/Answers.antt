@@ -1,7 +1,6 @@
 -- `mark` meets its contract: a million more for a read. Assumes nothing.
 use mathlib.Core.Path.{ap}
 use native.Mathlib.Omega.{arith}
-use borrow.Author.Rules.{rules}
 use Rattle.races.specs.Mark.{rank}
 use Rattle.per_record.proofs.mark.Goals as goal
 

@@ -2,8 +2,7 @@
 -- Assumes nothing.
 use mathlib.Core.Path.{refl}
 use native.Mathlib.Omega.{arith}
-use Prim.Native.Nat.{◌-◌, ◌≤◌}
-use Rattle.taking.specs.Buffers.{Buffers, buffers}
+use Rattle.taking.specs.Buffers.{buffers}
 use Rattle.per_record.specs.Goes.{Going}
 use Rattle.per_record.proofs.Running.{begins, ends}
 use Rattle.per_record.proofs.run.Goals as goal

@@ -1,11 +1,8 @@
 -- `run` meets its contract. The invariant: where the state at the loop's start is that before any event, the state is now that before event i.
 -- Assumes nothing.
-use mathlib.Core.Path.{refl}
-use native.Mathlib.Omega.{arith}
 use Prim.Native.Nat.{◌-◌, ◌≤◌}
-use Rattle.taking.specs.Buffers.{Buffers, buffers}
+use Rattle.taking.specs.Buffers.{Buffers}
 use Rattle.per_record.specs.Goes.{Going}
-use Rattle.per_record.proofs.Running.{begins, ends}
 use Rattle.per_record.proofs.run.Given as goal
 
 abbrev pub invariant-loop-i : goal.invariant-loop-i

@@ -1,5 +1,4 @@
 -- `second_in` meets its contract: the test picks the case of the definition. Assumes nothing.
-use borrow.Author.Rules.{rules}
 use Rattle.per_record.proofs.Marking.{low_second, high_second}
 use Rattle.per_record.proofs.second_in.Goals as goal
 

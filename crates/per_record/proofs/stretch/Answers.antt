@@ -1,9 +1,6 @@
 -- `stretch` meets its contract. The invariant: no event from the first up to i is an access of a frozen record. Assumes nothing.
-use Prim.Native.Nat.{ℕ, ◌≤◌, ◌<◌, ◌-◌}
-use mathlib.Core.Path.{◌≡◌, sym, ◌∙◌}
-use mathlib.Core.Bool.{false}
+use mathlib.Core.Path.{sym, ◌∙◌}
 use native.Mathlib.Omega.{arith}
-use Rattle.per_record.specs.Marks.{frozen_at}
 use Rattle.per_record.proofs.Stretches.{passed_more}
 use Rattle.per_record.proofs.stretch.Goals as goal
 
@@ -47,8 +44,8 @@ loop-i-preserved c =
 pub returns : goal.returns
 returns c =
     record {
-  onward = c.loop-i.invariant.0;
-  within = rw (← c.within-most.ensures.value) c.loop-i.invariant.1;
-  passed = c.loop-i.invariant.2;
-  stops = λ h. absurd (omega (arith, h, c.within-most.ensures.value, c.loop-i-test.false));
-}
+      onward = c.loop-i.invariant.0;
+      within = rw (← c.within-most.ensures.value) c.loop-i.invariant.1;
+      passed = c.loop-i.invariant.2;
+      stops = λ h. absurd (omega (arith, h, c.within-most.ensures.value, c.loop-i-test.false));
+    }

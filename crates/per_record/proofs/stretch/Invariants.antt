@@ -1,10 +1,8 @@
 -- `stretch` meets its contract. The invariant: no event from the first up to i is an access of a frozen record. Assumes nothing.
 use Prim.Native.Nat.{ℕ, ◌≤◌, ◌<◌, ◌-◌}
-use mathlib.Core.Path.{◌≡◌, sym, ◌∙◌}
+use mathlib.Core.Path.{◌≡◌}
 use mathlib.Core.Bool.{false}
-use native.Mathlib.Omega.{arith}
 use Rattle.per_record.specs.Marks.{frozen_at}
-use Rattle.per_record.proofs.Stretches.{passed_more}
 use Rattle.per_record.proofs.stretch.Given as goal
 
 abbrev pub invariant-loop-i : goal.invariant-loop-i

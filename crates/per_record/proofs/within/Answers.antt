@@ -1,6 +1,5 @@
 -- `within` meets its contract: the test picks the case of the definition. Assumes nothing.
 use native.Mathlib.Omega.{arith}
-use borrow.Author.Rules.{rules}
 use Rattle.per_record.proofs.Stretches.{to_the_end, whole_stretch}
 use Rattle.per_record.proofs.within.Goals as goal
 

@@ -1,11 +1,5 @@
 -- `access` meets its contract: it goes into the place of its kind. Assumes nothing.
 use Rattle.races.proofs.Mark.{access_put}
-use borrow.Author.Rules.{rules}
-use Rattle.races.proofs.access.Reads as reads
-use Rattle.races.proofs.access.Lts as lts
-use Rattle.races.proofs.pick.Reads as pick_reads
-use Rattle.races.proofs.place_of.Reads as place_of_reads
-use Rattle.races.proofs.put.Reads as put_reads
 use Rattle.races.proofs.access.Goals as goal
 
 pub returns : goal.returns

@@ -1,6 +1,5 @@
 -- `clear` meets its contract: the four runs are the places of the layout. Assumes nothing.
 use Rattle.races.proofs.Emptied.{emptied}
-use borrow.Author.Rules.{rules}
 use Rattle.races.proofs.clear.Goals as goal
 
 pub returns : goal.returns

@@ -1,9 +1,7 @@
 -- `empty` meets its contract: at the loop's head r entries are set. The measure is the entries that are left. Assumes nothing.
 use mathlib.Core.Path.{◌≡◌, refl, ◌∙◌}
-use Prim.Native.Nat.{◌≤◌, ◌-◌}
 use native.Mathlib.Omega.{arith}
-use lib.ListN.{length, length-set}
-use Rattle.races.specs.Entries.{filled}
+use lib.ListN.{length-set}
 use Rattle.races.proofs.Emptied.{filled_start, filled_more}
 use Rattle.races.proofs.empty.Goals as goal
 

@@ -1,10 +1,8 @@
 -- `empty` meets its contract: at the loop's head r entries are set. The measure is the entries that are left. Assumes nothing.
-use mathlib.Core.Path.{◌≡◌, refl, ◌∙◌}
+use mathlib.Core.Path.{◌≡◌}
 use Prim.Native.Nat.{◌≤◌, ◌-◌}
-use native.Mathlib.Omega.{arith}
-use lib.ListN.{length, length-set}
+use lib.ListN.{length}
 use Rattle.races.specs.Entries.{filled}
-use Rattle.races.proofs.Emptied.{filled_start, filled_more}
 use Rattle.races.proofs.empty.Given as goal
 
 abbrev pub invariant-loop-r : goal.invariant-loop-r

@@ -1,9 +1,5 @@
 -- `place_of` meets its contract: the kind says which of the two it is. Assumes nothing.
 use mathlib.Core.Path.{refl}
-use native.Mathlib.Omega.{arith}
-use borrow.Author.Rules.{rules}
-use Rattle.races.proofs.place_of.Reads as reads
-use Rattle.races.proofs.place_of.Lts as lts
 use Rattle.races.proofs.place_of.Goals as goal
 
 pub returns-in-Write-clause-value : goal.returns-in-Write-clause-value

@@ -1,6 +1,5 @@
 -- `put` meets its contract: the two stores are those of the definition. Assumes nothing.
 use mathlib.Core.Path.{refl}
-use borrow.Author.Rules.{rules}
 use Rattle.races.specs.Entries.{put}
 use Rattle.races.proofs.put.Goals as goal
 

@@ -1,7 +1,6 @@
 -- `relation::access_at` meets its contract: the test of the number picks the case. Assumes nothing.
 use borrow.Author.Tests.{le-ltb}
 use Rattle.relation.proofs.Answers.{access_below}
-use borrow.Author.Rules.{rules}
 use Rattle.relation.proofs.access_at.Goals as goal
 
 pub returns-then-n-count : goal.returns-then-n-count

@@ -2,12 +2,10 @@
 use mathlib.Core.Path.{◌≡◌, sym, ap, ◌∙◌}
 use mathlib.Core.Bool.{Bool, true, false, ◌&&◌}
 use lib.Dec.{ltb}
-use borrow.Author.Tests.{not-true, not-false}
 use Rattle.jobfile.specs.Trace.{event_at}
 use Rattle.relation.specs.Question.{access_at}
 use Rattle.relation.specs.declared.Related.TheVariants.{Refused}
 use Rattle.relation.proofs.Answers.{both_told, both_below, asked_over, asked_no_access, asked_accesses}
-use borrow.Author.Rules.{rules}
 use Rattle.relation.proofs.asked.Goals as goal
 use Rattle.relation.proofs.asked.Goals.{After-both-access, After-both-below}
 

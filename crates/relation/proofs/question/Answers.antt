@@ -1,7 +1,6 @@
 -- `relation::question` meets its contract: the check's answer picks the case, and an accepted file's events can be walked.
 -- Assumes nothing.
 use Prim.Native.Nat.{◌*◌}
-use borrow.Author.Rules.{rules}
 use lib.ListN.{length}
 use mathlib.Core.Path.{sym, ◌∙◌}
 use native.Mathlib.Nat.{add-sub_cancel_left}

@@ -1,6 +1,5 @@
 -- `strands::advance` meets its contract: an event that begins a strand leaves what `grow` asks, and one that begins none changes nothing. Assumes nothing.
 use Rattle.strands.proofs.Events.{ready_applicable, ready_growable, behind_advances, nothing_advances}
-use borrow.Author.Rules.{rules}
 use Rattle.strands.proofs.advance.Goals as goal
 
 pub apply-requires : goal.apply-requires

@@ -1,7 +1,6 @@
 -- `strands::apply` meets its contract: each arm knows the move, and hands on what the function for it ensures. Assumes nothing.
 use mathlib.Core.Path.{refl}
 use Rattle.strands.proofs.Events.{applicable_as}
-use borrow.Author.Rules.{rules}
 use Rattle.strands.proofs.apply.Goals as goal
 
 pub spawn-requires : goal.spawn-requires

@@ -2,7 +2,6 @@
 -- Assumes nothing.
 use mathlib.Core.Path.{◌∙◌}
 use Rattle.strands.proofs.Started.{both_begun}
-use borrow.Author.Rules.{rules}
 use Rattle.strands.proofs.begin.Goals as goal
 
 pub returns : goal.returns

@@ -1,7 +1,6 @@
 -- `strands::end` meets its contract: the event may come, so the task has a parent, and the stores are those of `end_applies`. Assumes nothing.
 use mathlib.Core.Path.{refl}
 use Rattle.strands.proofs.Events.{end_applies}
-use borrow.Author.Rules.{rules}
 use Rattle.strands.proofs.end.Goals as goal
 
 pub overflow_sub-parent : goal.overflow_sub-parent

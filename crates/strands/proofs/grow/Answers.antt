@@ -1,6 +1,5 @@
 -- `strands::grow` meets its contract: the strand appended to the English order leaves buffers that hold the Hebrew order still, and after the
 -- Hebrew insertion both orders have the new strand. The counts are far below what could wrap. Assumes nothing.
-use borrow.Author.Rules.{rules}
 use mathlib.Core.Path.{refl, ◌∙◌}
 use Prim.Native.Nat.{◌≤◌}
 use native.Mathlib.Omega.{arith}

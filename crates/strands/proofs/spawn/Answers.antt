@@ -1,7 +1,6 @@
 -- `strands::spawn` meets its contract: the event may come, so there is a place for the child, and the stores are those of `spawn_applies`. Assumes nothing.
 use mathlib.Core.Path.{refl}
 use Rattle.strands.proofs.Events.{spawn_applies}
-use borrow.Author.Rules.{rules}
 use Rattle.strands.proofs.spawn.Goals as goal
 
 pub bounds-lasts-child : goal.bounds-lasts-child

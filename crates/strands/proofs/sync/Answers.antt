@@ -1,6 +1,5 @@
 -- `strands::sync` meets its contract: with nothing to join nothing changes, and otherwise the stores are those of `sync_applies`. Assumes nothing.
 use Rattle.strands.proofs.Events.{sync_applies, sync_stays}
-use borrow.Author.Rules.{rules}
 use Rattle.strands.proofs.sync.Goals as goal
 
 pub returns-then-point-eq-NO_STRAND : goal.returns-then-point-eq-NO_STRAND

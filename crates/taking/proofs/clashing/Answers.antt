@@ -1,6 +1,5 @@
 -- `clashing` meets its contract: the kind says which of the two strands it is. Assumes nothing.
 use mathlib.Core.Path.{refl}
-use borrow.Author.Rules.{rules}
 use Rattle.taking.proofs.clashing.Goals as goal
 
 pub returns-in-Write-clause-value : goal.returns-in-Write-clause-value

@@ -2,7 +2,6 @@
 use mathlib.Core.Path.{sym, ◌∙◌}
 use native.Mathlib.Omega.{arith}
 use Rattle.taking.proofs.Finding.{its_strand, its_record, found_written, found_read}
-use borrow.Author.Rules.{rules}
 use Rattle.taking.proofs.find.Goals as goal
 
 pub overflow_sub-strand : goal.overflow_sub-strand

@@ -1,5 +1,4 @@
 -- `held_or` meets its contract: the test picks the case of the definition. Assumes nothing.
-use borrow.Author.Rules.{rules}
 use borrow.Author.Tests.{lt-ltb, le-ltb}
 use Rattle.taking.specs.Asking.{held_or}
 use Rattle.taking.proofs.held_or.Goals as goal

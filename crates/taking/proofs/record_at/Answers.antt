@@ -1,6 +1,5 @@
 -- `record_at` meets its contract: it is the record of the access, if the event is one. Assumes nothing.
-use mathlib.Core.Path.{refl, sym, ◌∙◌}
-use borrow.Author.Rules.{rules}
+use mathlib.Core.Path.{refl}
 use Rattle.taking.proofs.record_at.Goals as goal
 
 pub returns-in-To : goal.returns-in-To

@@ -3,7 +3,6 @@
 use mathlib.Core.Path.{sym, ◌∙◌}
 use native.Mathlib.Omega.{arith}
 use Rattle.taking.proofs.Turned.{some_strands, strand_below, record_below, turns_written, turns_read, names_nothing, accessible, turns_accessed, ready, turns_moved}
-use borrow.Author.Rules.{rules}
 use Rattle.taking.proofs.take.Goals as goal
 
 pub overflow_sub-strand : goal.overflow_sub-strand

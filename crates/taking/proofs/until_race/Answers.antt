@@ -1,13 +1,9 @@
 -- `until_race` meets its contract. The invariant: where the state at the loop's start is that before event `from`, the state is now that
 -- before event i, no record has raced on the way, and the open tasks' arrays are what the moves made of them. Assumes nothing.
-use mathlib.Core.Path.{◌≡◌, refl, sym, ◌∙◌}
+use mathlib.Core.Path.{refl, sym, ◌∙◌}
 use native.Mathlib.Omega.{arith}
 use native.Mathlib.Numerals.{add-one}
-use Prim.Native.Nat.{◌-◌, ◌≤◌}
-use borrow.Author.Rules.{rules}
-use Rattle.jobfile.specs.Trace.{event_at, moves}
-use Rattle.taking.specs.Turns.{tasks_over}
-use Rattle.taking.proofs.Reaching.{tasks_none, turnable, Stands, ends_all, ends_race, goes_on}
+use Rattle.taking.proofs.Reaching.{tasks_none, turnable, ends_all, ends_race, goes_on}
 use Rattle.taking.proofs.until_race.Goals as goal
 
 pub loop-i-init : goal.loop-i-init

@@ -1,11 +1,7 @@
 -- `jobfile::trailer::printable` meets its contract. The invariant: the bytes passed are printable, so the answer is that of the bytes from i
 -- on. Assumes nothing.
-use Prim.Native.Nat.{◌-◌, ◌≤◌}
-use mathlib.Core.Path.{◌≡◌}
-use lib.ListN.{length, drop}
 use native.Mathlib.Omega.{arith}
 use borrow.Author.Rules.{rules}
-use Rattle.trailer.specs.Trailer.{printable}
 use Rattle.trailer.proofs.Tests.{tests}
 use Rattle.trailer.proofs.NameAndTrailer.{printable_at, printable_end}
 use Rattle.trailer.proofs.printable.Goals as goal

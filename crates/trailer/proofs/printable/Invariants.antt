@@ -3,11 +3,7 @@
 use Prim.Native.Nat.{◌-◌, ◌≤◌}
 use mathlib.Core.Path.{◌≡◌}
 use lib.ListN.{length, drop}
-use native.Mathlib.Omega.{arith}
-use borrow.Author.Rules.{rules}
 use Rattle.trailer.specs.Trailer.{printable}
-use Rattle.trailer.proofs.Tests.{tests}
-use Rattle.trailer.proofs.NameAndTrailer.{printable_at, printable_end}
 use Rattle.trailer.proofs.printable.Given as goal
 
 abbrev pub invariant-loop-i : goal.invariant-loop-i

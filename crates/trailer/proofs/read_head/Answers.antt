@@ -1,13 +1,11 @@
 -- `jobfile::trailer::read_head` meets its contract: each return is one of the ways that `head_of` goes, and past the first two tests the head is
 -- what `head_sized` makes of the three numbers that were read. Assumes nothing.
-use borrow.Author.Rules.{rules}
 use native.Mathlib.Omega.{arith}
 use Prim.Native.Nat.{◌-◌}
 use mathlib.Core.Path.{◌≡◌, sym, ◌∙◌}
 use mathlib.Core.Bool.{cond}
 use lib.ListN.{length, drop}
 use lib.Seq.{length-take-le}
-use borrow.Author.Tests.{not-true, not-false}
 use Rattle.trailer.specs.Trailer.{head_of, head_sized, starts_with, mark}
 use Rattle.trailer.specs.declared.Head.TheVariants.{Whole, Refused}
 use Rattle.trailer.proofs.NameAndTrailer.{tail_part, head_short, head_mark, head_sized_lem, sized_fault, sized_name}

@@ -1,11 +1,7 @@
 -- `jobfile::trailer::starts_with` meets its contract. The invariant: the bytes passed are the same, so the answer is that of what is left of
 -- both from i on. Assumes nothing.
-use Prim.Native.Nat.{◌-◌, ◌≤◌}
-use mathlib.Core.Path.{◌≡◌}
-use lib.ListN.{length, drop}
 use native.Mathlib.Omega.{arith}
 use borrow.Author.Rules.{rules}
-use Rattle.trailer.specs.Trailer.{starts_with}
 use Rattle.trailer.proofs.Tests.{tests}
 use Rattle.trailer.proofs.NameAndTrailer.{starts_at, starts_short, starts_end}
 use Rattle.trailer.proofs.starts_with.Goals as goal

@@ -1,6 +1,5 @@
 -- `trailer::trailer_fault` meets its contract: at each return the test that led there is met, and those ahead of it are not. Assumes nothing.
 use native.Mathlib.Omega.{arith}
-use borrow.Author.Rules.{rules}
 use Rattle.trailer.proofs.Faults.{no_records, many_records, many_events, other_distance, long_distance, long_name, no_fault}
 use Rattle.trailer.proofs.trailer_fault.Goals as goal
 

@@ -1,6 +1,5 @@
 -- `jobfile::trailer::word` meets its contract: `word_at` is `quad` of the four bytes that are read. Assumes nothing.
 use Rattle.trailer.specs.Trailer.{word_at}
-use borrow.Author.Rules.{rules}
 use Rattle.trailer.proofs.word.Goals as goal
 
 pub returns : goal.returns

@@ -2,8 +2,6 @@
 use mathlib.Core.Path.{◌≡◌, sym, ◌∙◌}
 use mathlib.Core.Bool.{true}
 use native.Mathlib.Omega.{arith}
-use borrow.Author.Rules.{rules}
-use borrow.Author.Tests.{not-true, not-false}
 use Rattle.writing.specs.Written.{name_fits, records_fit}
 use Rattle.writing.proofs.Faults.{name_refused, records_refused, bytes_refused, count_refused, parts_taken}
 use Rattle.writing.proofs.parts_fault.Goals as goal

@@ -1,5 +1,4 @@
 -- `writing::put_file` meets its contract: the name, the events and the trailer are put one behind the other. Assumes nothing.
-use borrow.Author.Rules.{rules}
 use Rattle.bytes_at.proofs.Puts.{put_put}
 use Rattle.writing.specs.Written.{written_file}
 use Rattle.writing.proofs.put_file.Goals as goal

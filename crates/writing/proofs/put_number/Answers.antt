@@ -1,5 +1,4 @@
 -- `writing::put_number` meets its contract: four bytes are put from `at` on. Assumes nothing.
-use borrow.Author.Rules.{rules}
 use Rattle.writing.specs.Written.{four}
 use Rattle.writing.proofs.put_number.Goals as goal
 

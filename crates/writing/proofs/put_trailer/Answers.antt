@@ -1,5 +1,4 @@
 -- `writing::put_trailer` meets its contract: each part is put right behind the one before. Assumes nothing.
-use borrow.Author.Rules.{rules}
 use Rattle.bytes_at.proofs.Puts.{put_put}
 use Rattle.writing.specs.Written.{trailer}
 use Rattle.writing.proofs.put_trailer.Goals as goal

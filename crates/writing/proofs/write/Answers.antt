@@ -2,7 +2,6 @@
 -- Assumes nothing.
 use mathlib.Core.Path.{sym, ◌∙◌}
 use native.Mathlib.Omega.{arith}
-use borrow.Author.Rules.{rules}
 use Rattle.writing.proofs.Answers.{refuse_parts, refuse_events, refuse_room, give_bytes, out_by, written_count, out_written}
 use Rattle.writing.proofs.Gives.{write_gives}
 use Rattle.writing.proofs.write.Goals as goal

@@ -5,7 +5,6 @@ use Prim.Native.Nat.{◌<◌}
 use native.Mathlib.Omega.{arith}
 use lib.ListN.{get_or}
 use Rattle.jobfile.proofs.Told.{told_is}
-use borrow.Author.Rules.{rules}
 use Rattle.jobfile.proofs.coding.decode.Goals as goal
 
 pub returns-clause-value : goal.returns-clause-value

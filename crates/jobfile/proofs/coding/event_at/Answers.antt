@@ -2,7 +2,6 @@
 -- Assumes nothing.
 use mathlib.Core.Path.{sym, ap, ◌∙◌}
 use Rattle.jobfile.specs.Trace.{event_at, event_in}
-use borrow.Author.Rules.{rules}
 use Rattle.jobfile.proofs.coding.event_at.Goals as goal
 
 pub returns-in-Event : goal.returns-in-Event

@@ -1,7 +1,6 @@
 -- `jobfile::event::access_of` meets its contract: the definition's clauses, one by one. Assumes nothing.
 use mathlib.Core.Path.{sym, ap}
 use Rattle.jobfile.specs.Events.{access_of}
-use borrow.Author.Rules.{rules}
 use Rattle.jobfile.proofs.event.access_of.Goals as goal
 
 pub returns-in-Read : goal.returns-in-Read

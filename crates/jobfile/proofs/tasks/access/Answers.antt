@@ -1,6 +1,5 @@
 -- `jobfile::tasks::access` meets its contract: the test is that of refusal 9. Assumes nothing.
 use native.Mathlib.Omega.{arith}
-use borrow.Author.Rules.{rules}
 use Rattle.jobfile.proofs.Moves.{access_on, access_over}
 use Rattle.jobfile.proofs.tasks.access.Goals as goal
 

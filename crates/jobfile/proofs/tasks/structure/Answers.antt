@@ -5,7 +5,6 @@ use lib.Dec.{lit≤}
 use mir.Val.{bool_byte}
 use native.Mathlib.Omega.{arith}
 use Rattle.jobfile.proofs.Moves.{open_after, outside, inside, moved_out, moved_full, moved_on}
-use borrow.Author.Rules.{rules}
 use Rattle.jobfile.proofs.tasks.structure.Goals as goal
 
 at_most_one : (b : Bool) → bool_byte b ≤ 1

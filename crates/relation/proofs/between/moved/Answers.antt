@@ -3,7 +3,6 @@
 use Prim.Native.Nat.{◌≤◌, ◌<◌}
 use native.Mathlib.Omega.{arith}
 use Rattle.relation.proofs.Moves.{moved_up, moved_out, moved_down, moved_joined, moved_past}
-use borrow.Author.Rules.{rules}
 use Rattle.relation.proofs.between.moved.Goals as goal
 
 pub returns-then-w-eq0-clause-result_value : goal.returns-then-w-eq0-clause-result_value

@@ -1,13 +1,9 @@
 -- `relation::between::parallel` meets its contract. The loop's invariant: the walker is that of the definition, and no higher than the events
 -- passed. The measure is what is left of the way. Assumes nothing.
-use Prim.Native.Nat.{◌≤◌, ◌-◌}
 use mathlib.Core.Path.{◌≡◌, sym, ap, ◌∙◌}
 use native.Mathlib.Omega.{arith}
-use borrow.Author.Rules.{rules}
 use Rattle.jobfile.specs.Events.{move_of}
 use Rattle.jobfile.specs.Trace.{event_at, moves}
-use Rattle.relation.specs.Between.{walker_of}
-use Rattle.relation.specs.Walk.{walk}
 use Rattle.relation.proofs.Spawned.{walk_next}
 use Rattle.relation.proofs.Walk.{walk_start}
 use Rattle.relation.proofs.between.parallel.Goals as goal
