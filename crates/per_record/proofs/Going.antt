@@ -1,23 +1,20 @@
 -- Going on from event i: past an access of a frozen record, past a stretch and past a race what stands is that before the event that is
 -- next. Assumes nothing.
-use mathlib.Core.Path.{◌≡◌, refl, sym, ap, ◌∙◌}
+use mathlib.Core.Path.{◌≡◌, sym, ap, ◌∙◌}
 use mathlib.Core.Logic.{◌≢◌}
 use mathlib.Core.List.{List}
-use mathlib.Core.Bool.{Bool, true, false, false≢true, not}
+use mathlib.Core.Bool.{true, false}
 use mathlib.Core.Option.{some}
 use Prim.Native.Nat.{ℕ, suc, ◌+◌, ◌-◌, ◌≤◌, ◌<◌}
 use native.Mathlib.Omega.{arith}
 use native.Mathlib.Decide.{dec_le}
 use native.Mathlib.Numerals.{add-one}
-use lib.Dec.{eqb}
 use lib.ListN.{get_or, set}
-use borrow.Author.Tests.{eqb-true, eq-eqb}
 use Rattle.jobfile.specs.Accepted.{RecordBelow}
 use Rattle.jobfile.specs.Events.{access_of}
 use Rattle.jobfile.specs.Trace.{event_at, moves}
 use Rattle.jobfile.specs.declared.event.Kind.{Kind}
-use Rattle.jobfile.specs.declared.event.Access.{Access}
-use Rattle.jobfile.specs.declared.event.Access.TheVariants.{None, To}
+use Rattle.jobfile.specs.declared.event.Access.TheVariants.{To}
 use Rattle.jobfile.proofs.Accesses.{access_stays}
 use Rattle.strands.specs.Memory.{OpenTasks}
 use Rattle.strands.specs.declared.Now.{Now}
@@ -32,6 +29,7 @@ use Rattle.taking.proofs.Turned.{frozen_midway, raced_midway, frozen_still}
 use Rattle.per_record.specs.Marks.{mark_of, of_marked, frozen_at, HasMark, stretch_end, FirstFrom}
 use Rattle.per_record.specs.Goes.{Going, MayGo, past_frozen, past_all, past_race, Goes}
 use Rattle.per_record.proofs.Stretches.{stretch_bounds}
+use Rattle.per_record.proofs.Tested.{marked_access, unmarked_access}
 use Rattle.per_record.proofs.MarksKept.{unmarked_unraced, marked_raced, still_marked, its_number, raced_marked}
 
 less : (m n : ℕ) → m ≤ n → m ≢ n → m < n
@@ -40,18 +38,6 @@ less m n h d = go (dec_le (suc m) n)
     go : Dec (m < n) → m < n
     go (yes l) = l
     go (no l) = absurd (d (omega arith))
-
--- an access of a record that is marked, or not
-marked_access : (M : List ℕ) (a : Access) → of_marked M a ≡ true → (kind : Kind) × (r : ℕ) × (a ≡ To kind r) × (get_or M r 0 ≢ 4294967295)
-marked_access M None t = absurd (false≢true t)
-marked_access M (To kind r) t = (kind, r, refl, λ e. false≢true (sym (ap not (eq-eqb (get_or M r 0) 4294967295 e)) ∙ t))
-
-unmarked_access : (m : ℕ) → not (eqb m 4294967295) ≡ false → m ≡ 4294967295
-unmarked_access m f = eqb-true m 4294967295 (by (eqb m 4294967295) f)
-  where
-    by : (b : Bool) → not b ≡ false → b ≡ true
-    by true e = refl
-    by false e = absurd (false≢true (sym e))
 
 -- an access leaves the open tasks
 module _ (part : List ℕ) (from : ℕ) (T T' : OpenTasks) where

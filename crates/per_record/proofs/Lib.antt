@@ -7,6 +7,7 @@ pub mod Entering
 pub mod Pairs
 pub mod Rows
 pub mod Gives
+pub mod Tested
 pub mod Going
 pub mod Running
 pub mod OneAnswer

@@ -20,9 +20,9 @@ returns-then-fault-ne0 c =
 
 pub returns-then-short : goal.returns-then-short
 returns-then-short c =
-    let is_short_lem = sym c.if-short.true ∙ c.short.ensures in
+    let too_short = sym c.if-short.true ∙ c.short.ensures in
     records_gives _ _ _ _ _ _ _
-    (rw c.refuse-then-short.ensures (records_short _ _ _ _ _ c.requires _ c.judge_fault-fault.ensures.value c.if-fault-ne0.false is_short_lem))
+    (rw c.refuse-then-short.ensures (records_short _ _ _ _ _ c.requires _ c.judge_fault-fault.ensures.value c.if-fault-ne0.false too_short))
     (search rules)
 
 pub overflow_mul-end : goal.overflow_mul-end
