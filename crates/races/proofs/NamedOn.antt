@@ -107,14 +107,6 @@ module _ (ev : ℕ → Event) where
             inr (λ w e. s 0 w (omega arith) refl ((last_write_is ev r j w).1 e), (standing_is ev r j i up_to_j).0 h)
         go (suc (suc c)) l h s = absurd (omega arith)
 
-    on_to : (i j r : ℕ) → NamedOn ev k i j r → PairOn rules (event_trace ev) (Parallel (moves ev)) r k i j
-    on_to i j r N = record {
-      within = N.within;
-      is_race = race_on i j r N.is_race N.on_its_record;
-      earliest = λ m n l P. let w = on_race m n r P in N.earliest m n l w.0 w.1;
-      first = first_to i j r N.is_race N.on_its_record N.within N.first;
-    }
-
     on_from : (i j r : ℕ) → PairOn rules (event_trace ev) (Parallel (moves ev)) r k i j → NamedOn ev k i j r
     on_from i j r N =
         let w = on_race i j r N.is_race in
@@ -125,6 +117,14 @@ module _ (ev : ℕ → Event) where
           earliest = λ m n l P on. N.earliest m n l (race_on m n r P on);
           first = first_from i j r N.is_race.parallel N.within N.first;
         }
+
+    on_to : (i j r : ℕ) → NamedOn ev k i j r → PairOn rules (event_trace ev) (Parallel (moves ev)) r k i j
+    on_to i j r N = record {
+      within = N.within;
+      is_race = race_on i j r N.is_race N.on_its_record;
+      earliest = λ m n l P. let w = on_race m n r P in N.earliest m n l w.0 w.1;
+      first = first_to i j r N.is_race N.on_its_record N.within N.first;
+    }
 
     -- the pair that the rule names within a record is the record's pair
     pub named_on_is : (i j r : ℕ) → NamedOn ev k i j r ↔ PairOn rules (event_trace ev) (Parallel (moves ev)) r k i j

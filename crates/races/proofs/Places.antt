@@ -46,13 +46,13 @@ module _ (R : Rules) (T : Trace) where
   pub held_off : (r c n : ℕ) → in_class R T r c n ≡ false → held R T r c (suc n) ≡ held R T r c n
   held_off r c n e = held_next r c n ∙ rw e
 
-  pub stop_none : (r n : ℕ) → second_of R T r n ≡ none → stop_of R T r n ≡ n
-  unfolding stop_of
-  stop_none r n e = ap (λ (o : Option ℕ). get_or o n) e
-
   stop_some : (r n j : ℕ) → second_of R T r n ≡ some j → stop_of R T r n ≡ j
   unfolding stop_of
   stop_some r n j e = ap (λ (o : Option ℕ). get_or o n) e
+
+  pub stop_none : (r n : ℕ) → second_of R T r n ≡ none → stop_of R T r n ≡ n
+  unfolding stop_of
+  stop_none r n e = ap (λ (o : Option ℕ). get_or o n) e
 
   pub none_yet : (r : ℕ) → second_of R T r 0 ≡ none
   unfolding least

@@ -54,11 +54,15 @@ module _ (test : ℕ → Bool) where
   Least n none = (m : ℕ) → m < n → test m ≡ false
   Least n (some j) = (j < n) × (test j ≡ true) × ((m : ℕ) → m < j → test m ≡ false)
 
+  -- one that is found is the least further on too
+  found_stays : (n j : ℕ) → Least n (some j) → Least (suc n) (some j)
+  found_stays n j l = (omega arith, l.1, l.2)
+
   least_step : (n : ℕ) (o : Option ℕ) (b : Bool) → test n ≡ b → Least n o → Least (suc n) (or_here o b n)
   least_step n none true e l = (omega arith, e, l)
   least_step n none false e l = below (λ m. test m ≡ false) n l e
-  least_step n (some j) true e l = (omega arith, l.1, l.2)
-  least_step n (some j) false e l = (omega arith, l.1, l.2)
+  least_step n (some j) true e l = found_stays n j l
+  least_step n (some j) false e l = found_stays n j l
 
   pub least_is : (n : ℕ) → Least n (least test n)
   unfolding least
