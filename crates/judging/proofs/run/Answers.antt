@@ -1,5 +1,6 @@
 -- `run` meets its contract: it goes from the start to the first race or past all k events. Assumes nothing.
 use mathlib.Core.Path.{refl}
+use native.Mathlib.Omega.{arith}
 use Rattle.taking.specs.Buffers.{buffers}
 use Rattle.judging.proofs.Running.{starts, may_run, ends_clean, ends_raced, place_there}
 use Rattle.judging.proofs.run.Goals as goal
@@ -10,7 +11,7 @@ clear-requires-clause-in_bounds c =
 
 pub clear-requires-clause-records_bound : goal.clear-requires-clause-records_bound
 clear-requires-clause-records_bound c =
-    c.requires.run.records_within
+    omega arith
 
 pub begin-begun-requires : goal.begin-begun-requires
 begin-begun-requires c =
