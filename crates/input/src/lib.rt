@@ -1,10 +1,11 @@
-// Standard input of a program, taken whole into a buffer; and how a read or a write that failed is told.
+// Standard input of a program, taken whole into a buffer; and the words for a read or a write that failed.
 #![tactic(auto)]
 
 ghost use Rattle.jobfile.specs.Lent.{is};
 ghost use Rattle.input.specs.Fits.{InputFits};
+ghost use Rattle.input.specs.Told.{Words};
 
-use std::io::{Eprint, Error, Read};
+use std::io::{Error, Read};
 
 // The most bytes that a program takes.
 pub const MOST: usize = 65536;
@@ -31,15 +32,12 @@ pub fn read<R: Read>(input: &mut R, buffer: &mut [u8]) -> Input
     Input::Bytes(n)
 }
 
-// Tells on standard error what failed and why, in the system's words without their number. That this line cannot be written is not told.
-pub fn tell<R: Eprint + AllocGlobal>(rt: &R, what: &str, why: Error) {
-    let _ = match format!(in rt.alloc(); "{why}") {
-        Ok(text) => {
-            let words = text
-                .split_once(" (os error ")
-                .map_or(text.as_str(), |(words, _)| words);
-            eprintln!(rt; "{what}: {words}")
-        }
-        Err(_) => eprintln!(rt; "{what}: {why}"),
-    };
+// The system's words in what an error says of itself: without their number, which the library puts behind them.
+pub fn words(said: &str) -> &str
+    ensures { Words said.now result.now }
+{
+    match said.split_once(" (os error ") {
+        Some((words, _)) => words,
+        None => said,
+    }
 }

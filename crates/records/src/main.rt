@@ -12,7 +12,7 @@ use bytes_at::put;
 use input::{Input, MOST};
 use line::Lined;
 use lines::ROOM;
-use std::io::Print;
+use std::io::{Eprint, Print};
 
 // What is printed for the input, at the start of `out`; answers how many bytes.
 // requires: there is room for the longest text.
@@ -46,17 +46,25 @@ fn printed(input: &[u8], out: &mut [u8]) -> usize
     }
 }
 
-// One byte more than the program takes shows that there are too many.
+// One byte more than the program takes shows that there are too many. What failed is told in the system's words; that this cannot be told
+// is not.
 fn main(rt: HostRuntime) {
     let mut buffer = [0u8; MOST + 1];
     let mut out = [0u8; ROOM];
-    match input::read(&mut rt.stdin(), &mut buffer) {
+    let (what, done) = match input::read(&mut rt.stdin(), &mut buffer) {
         Input::Bytes(n) => {
             let length = printed(&buffer[..n], &mut out);
-            if let Err(e) = rt.write_all(&out[..length]) {
-                input::tell(&rt, "records: standard output", e);
-            }
+            ("standard output", rt.write_all(&out[..length]))
         }
-        Input::Failed(e) => input::tell(&rt, "records: standard input", e),
+        Input::Failed(e) => ("standard input", Err(e)),
+    };
+    if let Err(why) = done {
+        let _ = match format!(in rt.alloc(); "{why}") {
+            Ok(said) => {
+                let words = input::words(&said);
+                eprintln!(rt; "records: {what}: {words}")
+            }
+            Err(_) => eprintln!(rt; "records: {what}: {why}"),
+        };
     }
 }
