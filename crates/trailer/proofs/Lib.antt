@@ -1,3 +1,4 @@
+pub mod OneNumber
 pub mod Table
 pub mod Rows
 pub mod Tests

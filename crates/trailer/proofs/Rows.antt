@@ -9,9 +9,13 @@ use lib.Seq.{length-take-le}
 use lib.Dec.{eqb, ltb}
 use native.Mathlib.Omega.{arith}
 use borrow.Author.Tests.{eqb-true, eqb-false, ltb-true, ltb-false}
+use Rattle.std.specs.Prelude.{Result, Ok, Err}
+use Rattle.std.proofs.lemmas.Result.{IfOk-at_ok}
 use Rattle.trailer.specs.declared.Head.{Head}
-use Rattle.trailer.specs.declared.Head.TheVariants.{Whole, Refused}
-use Rattle.trailer.specs.Trailer.{mark, starts_with, printable, trailer_fault, head_named, head_sized, head_of, HeadFits}
+use Rattle.trailer.specs.declared.fault.Fault.{Fault}
+use Rattle.trailer.specs.declared.fault.Fault.TheVariants.{Short, Unmarked, RecordCount, EventCount, Distance, Outside, Name}
+use Rattle.trailer.specs.Numbers.{number_of}
+use Rattle.trailer.specs.Trailer.{mark, starts_with, printable, start_in, head_named, head_sized, head_of, HeadFits}
 use Rattle.trailer.specs.Table.{Rows, row, Nowhere, Table, Given, NoRow}
 use Rattle.trailer.specs.Rows.{distance_of, count_of, records_of, start_of, RecordCountOut, EventCountOver, ByteOut, NameOut, head_table}
 use Rattle.trailer.proofs.Table.{first_row, not_row}
@@ -97,17 +101,17 @@ module _ (file : List ℕ) where
   abbrev named : List ℕ
   named = take (start_of file) file
 
-  abbrev whole : Head
-  whole = Whole (start_of file) (count_of file) (records_of file)
+  abbrev whole : Result Head Fault
+  whole = Ok (record { start = start_of file; count = count_of file; records = records_of file })
 
   -- how the head ends by a table: read by the trailer's words, or refused by the row that is given
-  abbrev pub HeadEnds : Table → Head → Type 0
-  HeadEnds table h = ((h ≡ whole) × NoRow table) ⊎ ((k : ℕ) × (h ≡ Refused k) × (0 < k) × Given table k 0)
+  abbrev pub HeadEnds : Table → Result Head Fault → Type 0
+  HeadEnds table h = ((h ≡ whole) × NoRow table) ⊎ ((f : Fault) × (h ≡ Err f) × Given table (number_of f) 0)
 
   -- past rows that do not hold
-  past : (rows : Rows) (table : Table) (h : Head) → Nowhere rows → HeadEnds table h → HeadEnds (rows ∷ table) h
+  past : (rows : Rows) (table : Table) (h : Result Head Fault) → Nowhere rows → HeadEnds table h → HeadEnds (rows ∷ table) h
   past rows table h z (inl (e, none)) = inl (e, (z, none))
-  past rows table h z (inr (k, e, p, g)) = inr (k, e, p, inr (z, g))
+  past rows table h z (inr (f, e, g)) = inr (f, e, inr (z, g))
 
   -- rows 3 to 7
   abbrev sizes : Table
@@ -120,7 +124,7 @@ module _ (file : List ℕ) where
       ∷ []
 
   sized : HeadEnds sizes (head_sized file before (distance_of file) (count_of file) (records_of file))
-  unfolding head_sized head_named trailer_fault
+  unfolding head_sized start_in
   sized =
       by (eqb (records_of file) 0) refl (ltb 4096 (records_of file)) refl (ltb 1000000 (count_of file)) refl
       (eqb (distance_of file) (4 * count_of file)) refl (ltb before (distance_of file)) refl (ltb 64 (start_of file)) refl (printable named) refl
@@ -144,25 +148,26 @@ module _ (file : List ℕ) where
           → (d : Bool) → eqb (distance_of file) (4 * count_of file) ≡ d → (e : Bool) → ltb before (distance_of file) ≡ e
           → (f : Bool) → ltb 64 (start_of file) ≡ f → (g : Bool) → printable named ≡ g
           → HeadEnds sizes
-          (cond (eqb (cond a 3 (cond b 3 (cond c 4 (cond d (cond e 6 (cond f 7 0)) 5)))) 0)
-          (cond g whole (Refused 7))
-          (Refused (cond a 3 (cond b 3 (cond c 4 (cond d (cond e 6 (cond f 7 0)) 5))))))
-      by true p b q c r d s e t f u g v = inr (3, refl, omega arith, inl (first_row 3 (inl (eqb-true (records_of file) 0 p))))
-      by false p true q c r d s e t f u g v = inr (3, refl, omega arith, inl (first_row 3 (inr (ltb-true 4096 (records_of file) q))))
+          (head_named file
+          (cond a (Err RecordCount) (cond b (Err RecordCount) (cond c (Err EventCount)
+          (cond d (cond e (Err Outside) (cond f (Err Name) (Ok (start_of file)))) (Err Distance)))))
+          (count_of file) (records_of file))
+      by true p b q c r d s e t f u g v = inr (RecordCount, refl, inl (first_row 3 (inl (eqb-true (records_of file) 0 p))))
+      by false p true q c r d s e t f u g v = inr (RecordCount, refl, inl (first_row 3 (inr (ltb-true 4096 (records_of file) q))))
       by false p false q true r d s e t f u g v =
-          inr (4, refl, omega arith, inr (few p q, inl (first_row 4 (ltb-true 1000000 (count_of file) r))))
+          inr (EventCount, refl, inr (few p q, inl (first_row 4 (ltb-true 1000000 (count_of file) r))))
       by false p false q false r false s e t f u g v =
-          inr (5, refl, omega arith, inr (few p q, inr (not_over r, inl (first_row 5 (eqb-false (distance_of file) (4 * count_of file) s)))))
+          inr (Distance, refl, inr (few p q, inr (not_over r, inl (first_row 5 (eqb-false (distance_of file) (4 * count_of file) s)))))
       by false p false q false r true s true t f u g v =
-          inr (6, refl, omega arith, inr (few p q, inr (not_over r, inr (same s, inl (first_row 6 (ltb-true before (distance_of file) t))))))
+          inr (Outside, refl, inr (few p q, inr (not_over r, inr (same s, inl (first_row 6 (ltb-true before (distance_of file) t))))))
       by false p false q false r true s false t true u g v =
           let long : NameOut named = inl (rw all (ltb-true 64 (start_of file) u)) in
-          inr (7, refl, omega arith, inr (few p q, inr (not_over r, inr (same s, inr (inside t, inl (first_row 7 long))))))
+          inr (Name, refl, inr (few p q, inr (not_over r, inr (same s, inr (inside t, inl (first_row 7 long))))))
       by false p false q false r true s false t false u false v =
-          inr (7, refl, omega arith, inr (few p q, inr (not_over r, inr (same s, inr (inside t, inl (first_row 7 (name_out named v)))))))
+          inr (Name, rw v refl, inr (few p q, inr (not_over r, inr (same s, inr (inside t, inl (first_row 7 (name_out named v)))))))
       by false p false q false r true s false t false u true v =
           let fits = not_row (name_in named (rw all (ltb-false 64 (start_of file) u)) v) in
-          inl (refl, (few p q, (not_over r, (same s, (inside t, (fits, tt))))))
+          inl (rw v refl, (few p q, (not_over r, (same s, (inside t, (fits, tt))))))
 
   pub head_ends : HeadEnds (head_table file) (head_of file)
   unfolding head_of
@@ -176,9 +181,9 @@ module _ (file : List ℕ) where
 
       by : (a : Bool) → ltb (length file) 16 ≡ a → (b : Bool) → starts_with last mark ≡ b
           → HeadEnds (head_table file)
-          (cond a (Refused 1) (cond b (head_sized file before (distance_of file) (count_of file) (records_of file)) (Refused 2)))
-      by true p b q = inr (1, refl, omega arith, inl (first_row 1 (ltb-true (length file) 16 p)))
-      by false p false q = inr (2, refl, omega arith, inr (long p, inl (first_row 2 (unmarked last q))))
+          (cond a (Err Short) (cond b (head_sized file before (distance_of file) (count_of file) (records_of file)) (Err Unmarked)))
+      by true p b q = inr (Short, refl, inl (first_row 1 (ltb-true (length file) 16 p)))
+      by false p false q = inr (Unmarked, refl, inr (long p, inl (first_row 2 (unmarked last q))))
       by false p true q =
           let four : length last ≡ 4 = omega (arith, length-drop (length file - 4) file, ltb-false (length file) 16 p) in
           let marked : Nowhere (row 2 (¬ (last ≡ mark))) = not_row (λ n. n (starts_same last mark q four)) in
@@ -221,13 +226,15 @@ module _ (file : List ℕ) where
       name_short n e out = let l : ¬ (64 < length named) = λ h. out (inl h) in omega (arith, l)
 
   -- a head that is whole is that of the trailer's words
-  pub head_words : (start count records : ℕ) → head_of file ≡ Whole start count records
+  pub head_words : (start count records : ℕ) → head_of file ≡ Ok (record { start = start; count = count; records = records })
       → (start ≡ start_of file) × (count ≡ count_of file) × (records ≡ records_of file) × Words
   head_words start count records e = by head_ends
     where
       by : HeadEnds (head_table file) (head_of file) → (start ≡ start_of file) × (count ≡ count_of file) × (records ≡ records_of file) × Words
-      by (inl (w, none)) = (cc, cc, cc, words none)
-      by (inr (k, w, p, g)) = let z : ◌≡◌ {A = ℕ} 0 1 = cc in absurd (omega arith)
+      by (inl (w, none)) =
+          let same = IfOk-at_ok (λ (h : Head). (h.start ≡ start_of file) × (h.count ≡ count_of file) × (h.records ≡ records_of file)) (sym w ∙ e) (refl, refl, refl) in
+          (same.0, same.1, same.2, words none)
+      by (inr (f, w, g)) = cc
 
   up_to_7 : (k : ℕ) → Given (head_table file) k 0 → k ≤ 7
   up_to_7 k (inl F) = omega (arith, F.holds.0)
@@ -243,6 +250,6 @@ module _ (file : List ℕ) where
   pub head_fits : HeadFits (head_of file) (length file)
   head_fits = by (head_of file) head_ends
     where
-      by : (h : Head) → HeadEnds (head_table file) h → HeadFits h (length file)
+      by : (h : Result Head Fault) → HeadEnds (head_table file) h → HeadFits h (length file)
       by h (inl (e, none)) = let w = words none in rw e (w.short, omega arith, w.not_over, w.some, w.few)
-      by h (inr (k, e, p, g)) = rw e (p, up_to_7 k g)
+      by h (inr (f, e, g)) = rw e (up_to_7 (number_of f) g)

@@ -1,10 +1,13 @@
 -- Tables: at most one row is given, how a table is gone through, and that an answer which is right where it refuses and where it takes is
 -- exact. Assumes nothing.
-use Prim.Native.Nat.{ℕ, ◌<◌}
+use Prim.Native.Nat.{ℕ}
 use mathlib.Core.Path.{◌≡◌, refl, sym, ap, ◌∙◌}
 use mathlib.Core.Logic.{◌⊎◌, inl, inr}
 use mathlib.Core.List.{[], ◌∷◌, ◌++◌}
 use native.Mathlib.Omega.{arith}
+use Rattle.trailer.specs.declared.fault.Fault.{Fault}
+use Rattle.trailer.specs.Numbers.{number_of}
+use Rattle.trailer.proofs.OneNumber.{one_kind, from_one}
 use Rattle.trailer.specs.Table.{Rows, row, Nowhere, First, Table, Given, NoRow, Exact, ExactNumbers}
 
 -- two rows that are both given are the same
@@ -57,33 +60,33 @@ none_behind (rows ∷ front) back z = none_behind front back z.1
 
 -- how an answer ends: what a call gives where no row holds, or the refusal that is given
 module _ {A : Type 0} where
-  abbrev pub Ends : Table → A → (ℕ → ℕ → A) → A → Type 0
-  Ends table taken refused answer = ((answer ≡ taken) × NoRow table) ⊎ ((n m : ℕ) × (answer ≡ refused n m) × (0 < n) × Given table n m)
+  abbrev pub Ends : Table → A → (Fault → ℕ → A) → A → Type 0
+  Ends table taken refused answer = ((answer ≡ taken) × NoRow table) ⊎ ((f : Fault) × (m : ℕ) × (answer ≡ refused f m) × Given table (number_of f) m)
 
   -- an answer of a table stands behind one of which no row holds
-  pub ends_behind : (front back : Table) (taken : A) (refused : ℕ → ℕ → A) (answer : A) → NoRow front → Ends back taken refused answer
+  pub ends_behind : (front back : Table) (taken : A) (refused : Fault → ℕ → A) (answer : A) → NoRow front → Ends back taken refused answer
       → Ends (front ++ back) taken refused answer
   ends_behind front back taken refused answer none (inl (e, rest)) = inl (e, none_both front back none rest)
-  ends_behind front back taken refused answer none (inr (n, m, e, p, g)) = inr (n, m, e, p, given_back front back n m none g)
+  ends_behind front back taken refused answer none (inr (f, m, e, g)) = inr (f, m, e, given_back front back (number_of f) m none g)
 
   -- of answers whose refusals tell their number and their event
-  module _ (table : Table) (taken : A) (refused : ℕ → ℕ → A) (answer : A) (number event : A → ℕ)
-      (told : (n m : ℕ) → (number (refused n m) ≡ n) × (event (refused n m) ≡ m)) where
-    pub exact : ((n m : ℕ) → ¬ (taken ≡ refused n m)) → Ends table taken refused answer → Exact table taken refused answer
+  module _ (table : Table) (taken : A) (refused : Fault → ℕ → A) (answer : A) (number event : A → ℕ)
+      (told : (f : Fault) (m : ℕ) → (number (refused f m) ≡ number_of f) × (event (refused f m) ≡ m)) where
+    pub exact : ((f : Fault) (m : ℕ) → ¬ (taken ≡ refused f m)) → Ends table taken refused answer → Exact table taken refused answer
     exact apart (inl (e, none)) = record {
-      refusal = λ n m. (λ r. absurd (apart n m (sym e ∙ r)), λ g. absurd (none_given table n m none g));
+      refusal = λ f m. (λ r. absurd (apart f m (sym e ∙ r)), λ g. absurd (none_given table (number_of f) m none g));
       none = (λ r. none, λ r. e);
     }
-    exact apart (inr (k, i, e, p, G)) = record {
-      refusal = λ n m. (
+    exact apart (inr (k, i, e, G)) = record {
+      refusal = λ f m. (
         λ r.
-            let same : refused n m ≡ refused k i = sym r ∙ e in
-            let x : n ≡ k = sym (told n m).0 ∙ ap number same ∙ (told k i).0 in
-            let y : m ≡ i = sym (told n m).1 ∙ ap event same ∙ (told k i).1 in
+            let same : refused f m ≡ refused k i = sym r ∙ e in
+            let x : number_of f ≡ number_of k = sym (told f m).0 ∙ ap number same ∙ (told k i).0 in
+            let y : m ≡ i = sym (told f m).1 ∙ ap event same ∙ (told k i).1 in
             rw (x, y) G,
-        λ g. let o = given_once table k i n m G g in rw (← o.0, ← o.1) e,
+        λ g. let o = given_once table (number_of k) i (number_of f) m G g in rw (← one_kind k f o.0, ← o.1) e,
       );
-      none = (λ r. absurd (apart k i (sym r ∙ e)), λ none. absurd (none_given table k i none G));
+      none = (λ r. absurd (apart k i (sym r ∙ e)), λ none. absurd (none_given table (number_of k) i none G));
     }
 
     pub exact_numbers : number taken ≡ 0 → Ends table taken refused answer → ExactNumbers table (number answer) (event answer)
@@ -93,13 +96,14 @@ module _ {A : Type 0} where
           refusal = λ n m. (λ r. absurd (omega arith), λ g. absurd (none_given table n m none g));
           none = (λ r. none, λ r. z);
         }
-    exact_numbers zeros (inr (k, i, e, p, G)) =
-        let x : number answer ≡ k = ap number e ∙ (told k i).0 in
+    exact_numbers zeros (inr (k, i, e, G)) =
+        let p = from_one k in
+        let x : number answer ≡ number_of k = ap number e ∙ (told k i).0 in
         let y : event answer ≡ i = ap event e ∙ (told k i).1 in
         record {
           refusal = λ n m. (
             λ r. rw (sym r.1 ∙ x, sym r.2 ∙ y) G,
-            λ g. let o = given_once table k i n m G g in (omega arith, x ∙ o.0, y ∙ o.1),
+            λ g. let o = given_once table (number_of k) i n m G g in (omega arith, x ∙ o.0, y ∙ o.1),
           );
-          none = (λ r. absurd (omega arith), λ none. absurd (none_given table k i none G));
+          none = (λ r. absurd (omega arith), λ none. absurd (none_given table (number_of k) i none G));
         }

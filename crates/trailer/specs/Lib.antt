@@ -1,3 +1,4 @@
+pub mod Numbers
 pub mod Trailer
 pub mod Table
 pub mod Rows

@@ -1,5 +1,7 @@
 -- A call's table of refusals, and which row of it is given: of those that hold, the first in the call's order.
 use Rattle.std.specs.Prelude.{ℕ, ◌≤◌, ◌<◌, ◌≡◌, ◌⊎◌, ◌↔◌, List, [], ◌∷◌}
+use Rattle.trailer.specs.declared.fault.Fault.{Fault}
+use Rattle.trailer.specs.Numbers.{number_of}
 
 -- rows that are asked together: whether number n is a refusal of event m
 abbrev pub Rows : Type 1
@@ -33,10 +35,10 @@ abbrev pub NoRow : Table → Type 0
 NoRow [] = Unit {0}
 NoRow (rows ∷ table) = Nowhere rows × NoRow table
 
--- An answer is exact by a table: it is the refusal of n and m exactly if the table gives these, and what a call answers that is not refused
--- exactly if no row holds.
-pub record Exact {A : Type 0} (table : Table) (taken : A) (refused : ℕ → ℕ → A) (answer : A) : Type 0 where
-  pub refusal : (n m : ℕ) → (answer ≡ refused n m) ↔ Given table n m
+-- An answer is exact by a table: it is the refusal of a kind and of event m exactly if the table gives the kind's number and m, and what a call
+-- answers that is not refused exactly if no row holds.
+pub record Exact {A : Type 0} (table : Table) (taken : A) (refused : Fault → ℕ → A) (answer : A) : Type 0 where
+  pub refusal : (f : Fault) (m : ℕ) → (answer ≡ refused f m) ↔ Given table (number_of f) m
   pub none : (answer ≡ taken) ↔ NoRow table
 
 -- The same of the paper's values of an answer, the number and the event of its refusal; number 0 is no refusal.

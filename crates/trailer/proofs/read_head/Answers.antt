@@ -2,21 +2,22 @@
 -- what `head_sized` makes of the three numbers that were read. Assumes nothing.
 use native.Mathlib.Omega.{arith}
 use Prim.Native.Nat.{◌-◌}
-use mathlib.Core.Path.{◌≡◌, sym, ◌∙◌}
+use mathlib.Core.Path.{◌≡◌, sym, ap, ◌∙◌}
 use mathlib.Core.Bool.{cond}
 use lib.ListN.{length, drop}
-use lib.Seq.{length-take-le}
+use Rattle.std.specs.Prelude.{Ok, Err}
+use Rattle.std.proofs.lemmas.Result.{err_from_is_err_and}
+use Rattle.trailer.specs.declared.fault.Fault.TheVariants.{Name}
 use Rattle.trailer.specs.Trailer.{head_of, head_sized, starts_with, mark}
-use Rattle.trailer.specs.declared.Head.TheVariants.{Whole, Refused}
 use Rattle.trailer.proofs.NameAndTrailer.{tail_part, head_short, head_mark, head_sized_lem, sized_fault, sized_name}
 use Rattle.trailer.proofs.read_head.Goals as goal
-use Rattle.trailer.proofs.read_head.Goals.{After-printable, After-starts_with, After-trailer_fault-found}
+use Rattle.trailer.proofs.read_head.Goals.{After-printable, After-starts_with, After-start_in}
 
 mark_is : (c : After-starts_with) → let f = c.args.file.now in c.starts_with.result ≡ starts_with (drop (length f - 4) f) mark
 mark_is c = rw tail_part at c.starts_with.ensures
 
 -- past the first two tests, the head is what `head_sized` makes of the numbers that were read
-sized_is : (c : After-trailer_fault-found)
+sized_is : (c : After-start_in)
     → let f = c.args.file.now in
     head_of f ≡ head_sized f (length f - 16) c.word-distance.result c.word-count.result c.word-records.result
 sized_is c =
@@ -31,39 +32,31 @@ pub returns-then-not-starts_with-clause-value : goal.returns-then-not-starts_wit
 returns-then-not-starts_with-clause-value c =
     sym (head_mark _ (omega arith) (sym (mark_is (goal.at.returns-then-not-starts_with-clause-value c).After-starts_with) ∙ c.if-not-starts_with.true))
 
-pub returns-then-found-ne0-clause-value : goal.returns-then-found-ne0-clause-value
-returns-then-found-ne0-clause-value c =
-    sym (sized_is (goal.at.returns-then-found-ne0-clause-value c).After-trailer_fault-found ∙ sized_fault _ _ _ _ _ _ c.trailer_fault-found.ensures.value c.if-found-ne0.true)
+pub returns-in_err-start-clause-value : goal.returns-in_err-start-clause-value
+returns-in_err-start-clause-value c =
+    let p = err_from_is_err_and c.from_residual.result c.from_residual.ensures.1 in
+    p.1 ∙ ap Err p.2 ∙ sym (sized_is (goal.at.returns-in_err-start-clause-value c).After-start_in ∙ sized_fault _ _ _ _ _ _ c.in_err-start.ensures.value)
 
-pub returns-then-found-ne0-clause-head_fits : goal.returns-then-found-ne0-clause-head_fits
-returns-then-found-ne0-clause-head_fits c =
-    (omega (arith, c.if-found-ne0.true), omega arith)
-
-pub overflow_sub-start : goal.overflow_sub-start
-overflow_sub-start c =
-    omega (arith, c.trailer_fault-found.ensures.distance_le_before c.if-found-ne0.false)
-
-pub slice_bounds-printable-end : goal.slice_bounds-printable-end
-slice_bounds-printable-end c =
-    sym (length-take-le _ _ (omega arith))
+pub returns-in_err-start-clause-head_fits : goal.returns-in_err-start-clause-head_fits
+returns-in_err-start-clause-head_fits c =
+    let p = err_from_is_err_and c.from_residual.result c.from_residual.ensures.1 in
+    rw (p.1, p.2) c.in_err-start.ensures.start_fits
 
 -- with no fault in the numbers, the head is what `head_named` makes of the name
 named_is : (c : After-printable)
     → let f = c.args.file.now in
-    let distance = c.word-distance.result in
-    head_of f ≡ head_sized f (length f - 16) distance c.word-count.result c.word-records.result
-    → head_of f ≡ cond c.printable.result (Whole (length f - 16 - distance) c.word-count.result c.word-records.result) (Refused 7)
+    let start = c.in_ok-start.start in
+    head_of f ≡ head_sized f (length f - 16) c.word-distance.result c.word-count.result c.word-records.result
+    → head_of f ≡ cond c.printable.result (Ok (record { start = start; count = c.word-count.result; records = c.word-records.result })) (Err Name)
 named_is c sized =
-    sized ∙ sized_name _ _ _ _ _ c.printable.result (sym c.if-found-ne0.false ∙ c.trailer_fault-found.ensures.value) c.printable.ensures
+    sized ∙ sized_name _ _ _ _ _ _ c.printable.result c.in_ok-start.ensures.value c.printable.ensures
 
 pub returns-then-not-printable-clause-value : goal.returns-then-not-printable-clause-value
 returns-then-not-printable-clause-value c =
-    sym (named_is (goal.at.returns-then-not-printable-clause-value c).After-printable (sized_is (goal.at.returns-then-not-printable-clause-value c).After-trailer_fault-found) ∙ simp (c.if-not-printable.true))
+    let p = goal.at.returns-then-not-printable-clause-value c in
+    sym (named_is p.After-printable (sized_is p.After-start_in) ∙ simp (c.if-not-printable.true))
 
 pub returns-clause-value : goal.returns-clause-value
 returns-clause-value c =
-    sym (named_is (goal.at.returns-clause-value c).After-printable (sized_is (goal.at.returns-clause-value c).After-trailer_fault-found) ∙ simp (c.if-not-printable.false))
-
-pub returns-clause-head_fits : goal.returns-clause-head_fits
-returns-clause-head_fits c =
-    omega (arith, c.trailer_fault-found.ensures.distance_le_before c.if-found-ne0.false)
+    let p = goal.at.returns-clause-value c in
+    sym (named_is p.After-printable (sized_is p.After-start_in) ∙ simp (c.if-not-printable.false))

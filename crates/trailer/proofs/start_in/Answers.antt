@@ -1,7 +1,7 @@
--- `trailer::trailer_fault` meets its contract: at each return the test that led there is met, and those ahead of it are not. Assumes nothing.
+-- `trailer::start_in` meets its contract: at each return the test that led there is met, and those ahead of it are not. Assumes nothing.
 use native.Mathlib.Omega.{arith}
 use Rattle.trailer.proofs.Faults.{no_records, many_records, many_events, other_distance, long_distance, long_name, no_fault}
-use Rattle.trailer.proofs.trailer_fault.Goals as goal
+use Rattle.trailer.proofs.start_in.Goals as goal
 
 pub returns-then-records-eq0-clause-value : goal.returns-then-records-eq0-clause-value
 returns-then-records-eq0-clause-value c =
