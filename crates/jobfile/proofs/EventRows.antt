@@ -14,11 +14,13 @@ use Rattle.jobfile.specs.declared.event.Event.TheVariants.{Spawn, End, Sync, Rea
 use Rattle.jobfile.specs.declared.event.Move.{Move}
 use Rattle.jobfile.specs.declared.event.Move.TheVariants.{Opens, Closes, Joins, Stays}
 use Rattle.jobfile.specs.Events.{move_of}
-use Rattle.jobfile.specs.declared.coding.Decoded.{Decoded}
-use Rattle.jobfile.specs.declared.coding.Decoded.TheVariants.{Event as An, Refused as Unread}
+use Rattle.std.specs.Prelude.{None, Some, Result, Ok, Err}
+use Rattle.trailer.specs.declared.fault.Fault.{Fault}
+use Rattle.trailer.specs.declared.fault.Fault.TheVariants.{NoEvent, Record, RootEnded, TooDeep, TooManyStrands}
+use Rattle.trailer.specs.Numbers.{number_of}
 use Rattle.jobfile.specs.Coding.{event_of}
 use Rattle.jobfile.specs.Trace.{event_in, tasks_next, begins}
-use Rattle.jobfile.specs.Tasks.{Next, go, stop, record_fault, task_fault, move_on, step_on, step_of}
+use Rattle.jobfile.specs.Tasks.{Next, go, stop, unless, record_fault, task_fault, move_on, step_on, step_of}
 use Rattle.jobfile.specs.Rows.{Malformed, Coded, AtEvent, row_8, row_9, row_10, row_11, row_12}
 
 -- an event of these fields is well formed
@@ -28,9 +30,9 @@ well_formed kind second number a b c d (inr (inl f)) = f c
 well_formed kind second number a b c d (inr (inr f)) = f.2 (d f.1)
 
 -- what four bytes are read as
-abbrev pub Seen : ℕ → ℕ → ℕ → Decoded → Type 0
-Seen kind second number (An e) = Coded kind second number e
-Seen kind second number (Unread k) = (k ≡ 8) × Malformed kind second number
+abbrev pub Seen : ℕ → ℕ → ℕ → Result Event Fault → Type 0
+Seen kind second number (Ok e) = Coded kind second number e
+Seen kind second number (Err f) = (f ≡ NoEvent) × Malformed kind second number
 
 module _ (kind second number : ℕ) where
   pub formed : (e : Event) → Coded kind second number e → ¬ Malformed kind second number
@@ -49,11 +51,11 @@ module _ (kind second number : ℕ) where
       by : (a : Bool) → eqb kind 0 ≡ a → (b : Bool) → ltb 5 kind ≡ b → (c : Bool) → eqb second 0 ≡ c → (d : Bool) → eqb kind 4 ≡ d
           → (e : Bool) → eqb kind 5 ≡ e → (f : Bool) → eqb number 0 ≡ f → (g : Bool) → eqb kind 1 ≡ g → (h : Bool) → eqb kind 2 ≡ h
           → Seen kind second number
-          (cond a (Unread 8)
-          (cond b (Unread 8)
+          (cond a (Err NoEvent)
+          (cond b (Err NoEvent)
           (cond c
-          (cond d (An (Read number)) (cond e (An (Write number)) (cond f (cond g (An Spawn) (cond h (An End) (An Sync))) (Unread 8))))
-          (Unread 8))))
+          (cond d (Ok (Read number)) (cond e (Ok (Write number)) (cond f (cond g (Ok Spawn) (cond h (Ok End) (Ok Sync))) (Err NoEvent))))
+          (Err NoEvent))))
       by true p b q c r d s e t f u g v h w = (refl, inl (λ k. omega (arith, eqb-true kind 0 p)))
       by false p true q c r d s e t f u g v h w = (refl, inl (λ k. omega (arith, ltb-true 5 kind q)))
       by false p false q false r d s e t f u g v h w = (refl, inr (inl (eqb-false second 0 r)))
@@ -70,7 +72,7 @@ module _ (kind second number : ℕ) where
           let i : 1 ≤ kind = omega (arith, eqb-false kind 0 p) in
           (omega (arith, eqb-false kind 1 v, eqb-false kind 2 w, eqb-false kind 4 s, eqb-false kind 5 t), eqb-true second 0 r, eqb-true number 0 u)
 
-  coded_is : (e : Event) → Coded kind second number e → event_of kind second number ≡ An e
+  coded_is : (e : Event) → Coded kind second number e → event_of kind second number ≡ Ok e
   unfolding event_of
   coded_is Spawn (k, s, z) = rw (k, s, z)
   coded_is End (k, s, z) = rw (k, s, z)
@@ -78,16 +80,16 @@ module _ (kind second number : ℕ) where
   coded_is (Read r) (k, s, z) = rw (k, s, z)
   coded_is (Write r) (k, s, z) = rw (k, s, z)
 
-  malformed_is : (d : Decoded) → Seen kind second number d → Malformed kind second number → d ≡ Unread 8
-  malformed_is (An e) c m = absurd (formed e c m)
-  malformed_is (Unread k) (e, c) m = rw e
+  malformed_is : (d : Result Event Fault) → Seen kind second number d → Malformed kind second number → d ≡ Err NoEvent
+  malformed_is (Ok e) c m = absurd (formed e c m)
+  malformed_is (Err f) (e, c) m = rw e
 
   -- Decoding is exact, for every three fields.
-  pub decoded_event : (e : Event) → (event_of kind second number ≡ An e) ↔ Coded kind second number e
+  pub decoded_event : (e : Event) → (event_of kind second number ≡ Ok e) ↔ Coded kind second number e
   decoded_event e = (λ q. subst (Seen kind second number) q seen, coded_is e)
 
-  pub decoded_refusal : (k : ℕ) → (event_of kind second number ≡ Unread k) ↔ ((k ≡ 8) × Malformed kind second number)
-  decoded_refusal k = (λ q. subst (Seen kind second number) q seen, λ c. rw c.0 (malformed_is (event_of kind second number) seen c.1))
+  pub decoded_refusal : (f : Fault) → (event_of kind second number ≡ Err f) ↔ ((f ≡ NoEvent) × Malformed kind second number)
+  decoded_refusal f = (λ q. subst (Seen kind second number) q seen, λ c. rw c.0 (malformed_is (event_of kind second number) seen c.1))
 
 begins_small : (m : Move) (tasks : List Bool) → begins m tasks ≤ 1
 begins_small Opens tasks = omega arith
@@ -154,7 +156,7 @@ module _ (records kind second number : ℕ) (tasks : List Bool) (strands : ℕ) 
   abbrev pub LeadsOn : Move → Next → Type 0
   LeadsOn m (go us n) =
       (us ≡ tasks_next m tasks) × (n ≡ strands + begins m tasks) × (1 ≤ length us) × (length us ≤ 64) × (n ≤ 4096) × ((k : ℕ) → ¬ At m k)
-  LeadsOn m (stop k) = (0 < k) × At m k × From m k
+  LeadsOn m (stop f) = At m (number_of f) × From m (number_of f)
 
   module _ (root : 1 ≤ length tasks) (shallow : length tasks ≤ 64) (few : strands ≤ 4096) where
     module _ (event : ¬ Malformed kind second number) where
@@ -167,18 +169,18 @@ module _ (records kind second number : ℕ) (tasks : List Bool) (strands : ℕ) 
 
         -- past rows 10 and 11
         strand_begins : (m : Move) → ¬ At m 10 → ¬ At m 11 → (1 ≤ length (tasks_next m tasks)) × (length (tasks_next m tasks) ≤ 64)
-            → LeadsOn m (cond (ltb 4096 (strands + begins m tasks)) (stop 12) (go (tasks_next m tasks) (strands + begins m tasks)))
+            → LeadsOn m (cond (ltb 4096 (strands + begins m tasks)) (stop TooManyStrands) (go (tasks_next m tasks) (strands + begins m tasks)))
         strand_begins m no_10 no_11 d = by (ltb 4096 (strands + begins m tasks)) refl
           where
             from_12 : From m 12
             from_12 = past m 11 (past m 10 (from_10 m) no_10) no_11
 
             by : (b : Bool) → ltb 4096 (strands + begins m tasks) ≡ b
-                → LeadsOn m (cond b (stop 12) (go (tasks_next m tasks) (strands + begins m tasks)))
+                → LeadsOn m (cond b (stop TooManyStrands) (go (tasks_next m tasks) (strands + begins m tasks)))
             by true q =
                 let l = ltb-true 4096 (strands + begins m tasks) q in
                 let s = begins_small m tasks in
-                (omega arith, row_12 (omega arith) (omega arith), from_12)
+                (row_12 (omega arith) (omega arith), from_12)
             by false q =
                 let l = ltb-false 4096 (strands + begins m tasks) q in
                 (refl, refl, d.0, d.1, l, λ k r. omega (arith, past m 12 from_12 (λ t. omega (arith, says_12 t)) k r, in_range r))
@@ -192,14 +194,13 @@ module _ (records kind second number : ℕ) (tasks : List Bool) (strands : ℕ) 
 
             by : (b : Bool) → ltb (length tasks) 64 ≡ b
                 → LeadsOn Opens
-                (cond (eqb (cond b 0 11) 0)
-                (cond (ltb 4096 (strands + 1)) (stop 12) (go (tasks_next Opens tasks) (strands + 1)))
-                (stop (cond b 0 11)))
+                (unless (cond b None (Some TooDeep))
+                (cond (ltb 4096 (strands + 1)) (stop TooManyStrands) (go (tasks_next Opens tasks) (strands + 1))))
             by true q =
                 let l = ltb-true (length tasks) 64 q in
                 let o = opened tasks root in
                 strand_begins Opens no_10 (λ r. omega (arith, says_11 r)) (omega arith, omega arith)
-            by false q = let l = ltb-false (length tasks) 64 q in (omega arith, row_11 k (omega arith), past Opens 10 (from_10 Opens) no_10)
+            by false q = let l = ltb-false (length tasks) 64 q in (row_11 k (omega arith), past Opens 10 (from_10 Opens) no_10)
 
         closes : kind ≡ 2 → LeadsOn Closes (move_on tasks strands Closes)
         unfolding move_on task_fault
@@ -207,14 +208,13 @@ module _ (records kind second number : ℕ) (tasks : List Bool) (strands : ℕ) 
           where
             by : (b : Bool) → ltb 1 (length tasks) ≡ b
                 → LeadsOn Closes
-                (cond (eqb (cond b 0 10) 0)
-                (cond (ltb 4096 (strands + 1)) (stop 12) (go (tasks_next Closes tasks) (strands + 1)))
-                (stop (cond b 0 10)))
+                (unless (cond b None (Some RootEnded))
+                (cond (ltb 4096 (strands + 1)) (stop TooManyStrands) (go (tasks_next Closes tasks) (strands + 1))))
             by true q =
                 let l = ltb-true 1 (length tasks) q in
                 let o = closed tasks root in
                 strand_begins Closes (λ r. omega (arith, says_10 r)) (λ r. omega (arith, says_11 r)) (omega arith, omega arith)
-            by false q = let l = ltb-false 1 (length tasks) q in (omega arith, row_10 k (omega arith), from_10 Closes)
+            by false q = let l = ltb-false 1 (length tasks) q in (row_10 k (omega arith), from_10 Closes)
 
         joins : kind ≡ 3 → LeadsOn Joins (move_on tasks strands Joins)
         unfolding move_on task_fault
@@ -227,12 +227,12 @@ module _ (records kind second number : ℕ) (tasks : List Bool) (strands : ℕ) 
         stays k = strand_begins Stays (λ r. omega (arith, says_10 r)) (λ r. omega (arith, says_11 r)) (root, shallow)
 
       accesses : (r : ℕ) → 4 ≤ kind → number ≡ r
-          → LeadsOn Stays (cond (eqb (cond (ltb r records) 0 9) 0) (move_on tasks strands Stays) (stop (cond (ltb r records) 0 9)))
+          → LeadsOn Stays (unless (cond (ltb r records) None (Some Record)) (move_on tasks strands Stays))
       accesses r k e = by (ltb r records) refl
         where
-          by : (b : Bool) → ltb r records ≡ b → LeadsOn Stays (cond (eqb (cond b 0 9) 0) (move_on tasks strands Stays) (stop (cond b 0 9)))
+          by : (b : Bool) → ltb r records ≡ b → LeadsOn Stays (unless (cond b None (Some Record)) (move_on tasks strands Stays))
           by true q = let l = ltb-true r records q in stays (omega arith) k
-          by false q = let l = ltb-false r records q in (omega arith, row_9 (omega arith), from_9 Stays)
+          by false q = let l = ltb-false r records q in (row_9 (omega arith), from_9 Stays)
 
       stepped : 0 < records → (e : Event) → Coded kind second number e → LeadsOn (move_of e) (step_on records tasks strands e)
       unfolding step_on record_fault
@@ -242,6 +242,6 @@ module _ (records kind second number : ℕ) (tasks : List Bool) (strands : ℕ) 
       stepped some (Read r) (k, s, z) = accesses r (omega arith) z
       stepped some (Write r) (k, s, z) = accesses r (omega arith) z
 
-    pub leads_on : 0 < records → (d : Decoded) → Seen kind second number d → LeadsOn (move_of (event_in d)) (step_of records tasks strands d)
-    leads_on some (An e) c = stepped (formed kind second number e c) some e c
-    leads_on some (Unread k) (e, c) = (omega arith, rw e (row_8 c), λ n r. omega (arith, in_range r))
+    pub leads_on : 0 < records → (d : Result Event Fault) → Seen kind second number d → LeadsOn (move_of (event_in d)) (step_of records tasks strands d)
+    leads_on some (Ok e) c = stepped (formed kind second number e c) some e c
+    leads_on some (Err f) (e, c) = rw e (row_8 c, λ n r. omega (arith, in_range r))

@@ -7,20 +7,21 @@ use lib.ListN.{length}
 use Rattle.jobfile.specs.File.{check_of, CheckFits, refusal_number}
 use Rattle.jobfile.specs.Rows.{job_in}
 use Rattle.jobfile.specs.Gives.{Reads, CheckGives}
-use Rattle.jobfile.specs.declared.Checked.{Checked}
-use Rattle.jobfile.specs.declared.Checked.TheVariants.{Accepted, Refused}
+use Rattle.std.specs.Prelude.{Result, Ok, Err}
+use Rattle.jobfile.specs.declared.Job.{Job}
+use Rattle.jobfile.specs.declared.refusal.Refusal.{Refusal}
 use Rattle.jobfile.proofs.Rows.{reading_exact, reading_numbers}
 
-zeros : (r : Checked) → 0 < refusal_number r → Reads r 0 0 0
-zeros (Accepted j) h = absurd (omega (arith, h))
-zeros (Refused r) h = record { name_length_is = refl; event_count_is = refl; record_count_is = refl }
+zeros : (r : Result Job Refusal) → 0 < refusal_number r → Reads r 0 0 0
+zeros (Ok j) h = absurd (omega (arith, h))
+zeros (Err r) h = record { name_length_is = refl; event_count_is = refl; record_count_is = refl }
 
-pub check_gives : (file : List ℕ) (r : Checked) → r ≡ check_of file → CheckFits r (length file) → CheckGives file r
+pub check_gives : (file : List ℕ) (r : Result Job Refusal) → r ≡ check_of file → CheckFits r (length file) → CheckGives file r
 check_gives file r e f = record {
   answer = e;
   told = rw e (reading_numbers file);
   accepted = λ z.
-      let taken : check_of file ≡ Accepted (job_in file) = (reading_exact file).none.1 ((reading_numbers file).none.0 (rw e at z)) in
+      let taken : check_of file ≡ Ok (job_in file) = (reading_exact file).none.1 ((reading_numbers file).none.0 (rw e at z)) in
       rw (e, taken) (record { name_length_is = refl; event_count_is = refl; record_count_is = refl });
   refused = zeros r;
   fits = f;

@@ -4,7 +4,9 @@ use mathlib.Core.Path.{◌≡◌, refl}
 use contract.Lifetimes.{Lfts}
 use denote.Triple.Clauses.{AtExit}
 use borrow.Fn.Kinds.{Dens, ended_of}
-use Rattle.jobfile.specs.declared.Checked.{Checked}
+use Rattle.std.specs.Prelude.{Result}
+use Rattle.jobfile.specs.declared.Job.{Job}
+use Rattle.jobfile.specs.declared.refusal.Refusal.{Refusal}
 use Rattle.jobfile.specs.Gives.{CheckGives}
 use Rattle.jobfile.proofs.check.Kinds as kinds
 use Rattle.jobfile.proofs.check.Reads as check
@@ -21,5 +23,5 @@ module _ (κs : Lfts 1) (a : Dens κs kinds.ps) where
   check_asks = refl
 
   -- a: the arguments, s: what is left in what was lent
-  pub check_promises : (r : Checked) (s : AtExit (ended_of 1 kinds.ps kinds.r) κs) → check.Post κs a r s ≡ CheckGives a.0.now r
+  pub check_promises : (r : Result Job Refusal) (s : AtExit (ended_of 1 kinds.ps kinds.r) κs) → check.Post κs a r s ≡ CheckGives a.0.now r
   check_promises r s = refl

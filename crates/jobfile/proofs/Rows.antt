@@ -19,10 +19,12 @@ use Rattle.trailer.specs.declared.Head.{Head}
 use Rattle.trailer.proofs.Table.{first_row, not_row, given_front, given_back, none_both, none_behind, Ends, exact, exact_numbers}
 use Rattle.trailer.proofs.Rows.{HeadEnds, head_ends, words}
 use Rattle.jobfile.specs.declared.event.Move.{Move}
-use Rattle.jobfile.specs.declared.tasks.Traced.{Traced}
-use Rattle.jobfile.specs.declared.tasks.Traced.TheVariants.{Whole, Refused as TraceRefused}
-use Rattle.jobfile.specs.declared.Checked.{Checked}
-use Rattle.jobfile.specs.declared.Checked.TheVariants.{Accepted, Refused}
+use Rattle.std.specs.Prelude.{Result, Ok, Err}
+use Rattle.jobfile.specs.declared.Job.{Job}
+use Rattle.jobfile.specs.declared.refusal.Refusal.{Refusal}
+use Rattle.trailer.specs.declared.fault.Fault.{Fault}
+use Rattle.trailer.specs.declared.fault.Fault.TheVariants.{LeftOpen}
+use Rattle.trailer.specs.Numbers.{number_of}
 use Rattle.jobfile.specs.Refusals.{refusal_of}
 use Rattle.jobfile.specs.Coding.{decode_at}
 use Rattle.jobfile.specs.Trace.{event_at, moves, tasks_at, depth_at, begun_at}
@@ -61,11 +63,11 @@ module _ (records : ℕ) (part : List ℕ) where
       passed m (no g) l k = C.passed m (omega arith) k
 
   module _ (count : ℕ) where
-    abbrev pub TraceEnds : Traced → Type 0
-    TraceEnds = Ends (trace_table records count part) (Whole (begun_at mv count)) (λ n m. TraceRefused (refusal_of n m))
+    abbrev pub TraceEnds : Result ℕ Refusal → Type 0
+    TraceEnds = Ends (trace_table records count part) (Ok (begun_at mv count)) (λ f m. Err (refusal_of f m))
 
     -- the answer of the events from i on
-    abbrev rest : ℕ → List Bool → ℕ → Traced
+    abbrev rest : ℕ → List Bool → ℕ → Result ℕ Refusal
     rest i tasks n = trace_from records (drop (4 * i) part) i tasks n
 
     finished : Clear count → TraceEnds (finish (tasks_at mv count) (begun_at mv count))
@@ -75,8 +77,8 @@ module _ (records : ℕ) (part : List ℕ) where
         nowhere : Nowhere (event_rows records count part)
         nowhere n m (l, r) = C.passed m l n r
 
-        by : (b : Bool) → ltb 1 (depth_at mv count) ≡ b → TraceEnds (cond b (TraceRefused (refusal_of 13 0)) (Whole (begun_at mv count)))
-        by true q = inr (13, 0, refl, omega arith, inr (nowhere, inl (first_row 13 (ltb-true 1 (depth_at mv count) q))))
+        by : (b : Bool) → ltb 1 (depth_at mv count) ≡ b → TraceEnds (cond b (Err (refusal_of LeftOpen 0)) (Ok (begun_at mv count)))
+        by true q = inr (LeftOpen, 0, refl, inr (nowhere, inl (first_row 13 (ltb-true 1 (depth_at mv count) q))))
         by false q = inl (refl, (nowhere, (not_row (λ l. omega (arith, ltb-false 1 (depth_at mv count) q)), tt)))
 
     -- event i, and what is behind it
@@ -84,8 +86,8 @@ module _ (records : ℕ) (part : List ℕ) where
         → (Clear (suc i) → TraceEnds (rest (i + 1) (tasks_at mv (suc i)) (begun_at mv (suc i)))) → TraceEnds (resume x i (λ us n. rest (i + 1) us n))
     unfolding tasks_at begun_at
     turned i h C (go us n) l next = rw (l.0, l.1) (next (clear_next i us n C l))
-    turned i h C (stop k) (p, r, least) next =
-        inr (k, i, refl, p, inl (record { holds = (h, r); earliest = λ n m x. earliest n m (dec_le i m) x.1; least = λ n x. least n x.1 }))
+    turned i h C (stop f) (r, least) next =
+        inr (f, i, refl, inl (record { holds = (h, r); earliest = λ n m x. earliest n m (dec_le i m) x.1; least = λ n x. least n x.1 }))
       where
         earliest : (n m : ℕ) → Dec (i ≤ m) → row_at records part m n → i ≤ m
         earliest n m (yes g) x = g
@@ -107,7 +109,7 @@ module _ (records : ℕ) (part : List ℕ) where
         where
           by : (x : Next) → Clear i → LeadsAt i x → Clear (suc i)
           by (go us n) C l = clear_next i us n C l
-          by (stop k) C l = absurd (none.0 k i (h, l.1))
+          by (stop f) C l = absurd (none.0 (number_of f) i (h, l.0))
 
       module _ (size : length part ≡ 4 * count) where
         from : (left i : ℕ) → i + left ≡ count → Clear i → TraceEnds (rest i (tasks_at mv i) (begun_at mv i))
@@ -130,31 +132,31 @@ trace_range records count part n m (inl F) = let r = in_range F.holds.1 in (omeg
 trace_range records count part n m (inr (z, inl F)) = let e = F.holds.0 in (omega arith, omega arith)
 trace_range records count part n m (inr (z, inr (y, g))) = absurd g
 
-abbrev refuse : ℕ → ℕ → Checked
-refuse n m = Refused (refusal_of n m)
+abbrev refuse : Fault → ℕ → Result Job Refusal
+refuse f m = Err (refusal_of f m)
 
 module _ (file : List ℕ) where
   abbrev traced : Table
   traced = trace_table (records_of file) (count_of file) (part_in file)
 
-  abbrev pub ReadEnds : Checked → Type 0
-  ReadEnds = Ends (read_table file) (Accepted (job_in file)) refuse
+  abbrev pub ReadEnds : Result Job Refusal → Type 0
+  ReadEnds = Ends (read_table file) (Ok (job_in file)) refuse
 
   pub read_ends : ReadEnds (check_of file)
   unfolding check_of
   read_ends = by_head (head_of file) (head_ends file)
     where
-      by_trace : NoRow (head_table file) → (t : Traced) → TraceEnds (records_of file) (part_in file) (count_of file) t
+      by_trace : NoRow (head_table file) → (t : Result ℕ Refusal) → TraceEnds (records_of file) (part_in file) (count_of file) t
           → ReadEnds (after_trace t (start_of file) (count_of file) (records_of file))
       by_trace none t (inl (e, rest)) = rw e (inl (refl, none_both (head_table file) traced none rest))
-      by_trace none t (inr (n, m, e, p, g)) = rw e (inr (n, m, refl, p, given_back (head_table file) traced n m none g))
+      by_trace none t (inr (f, m, e, g)) = rw e (inr (f, m, refl, given_back (head_table file) traced (number_of f) m none g))
 
-      by_head : (h : Head) → HeadEnds file (head_table file) h → ReadEnds (after_head h file)
+      by_head : (h : Result Head Fault) → HeadEnds file (head_table file) h → ReadEnds (after_head h file)
       by_head h (inl (e, none)) =
           let w = words file none in
           let size = length-take-le (4 * count_of file) (drop (start_of file) file) (omega (arith, length-drop (start_of file) file)) in
           rw e (by_trace none (trace_of (records_of file) (part_in file)) (trace_ends (records_of file) (part_in file) (count_of file) w.some size))
-      by_head h (inr (k, e, p, g)) = rw e (inr (k, 0, refl, p, given_front (head_table file) traced k 0 g))
+      by_head h (inr (f, e, g)) = rw e (inr (f, 0, refl, given_front (head_table file) traced (number_of f) 0 g))
 
   -- where no row holds, every event is well formed
   pub events_read : NoRow (read_table file)
@@ -162,11 +164,11 @@ module _ (file : List ℕ) where
   events_read none m h c = (none_behind (head_table file) traced none).0 8 m (h, row_8 c)
 
   -- Reading is exact, for every byte string.
-  pub reading_exact : Exact (read_table file) (Accepted (job_in file)) (λ n m. Refused (refusal_of n m)) (check_of file)
+  pub reading_exact : Exact (read_table file) (Ok (job_in file)) (λ f m. Err (refusal_of f m)) (check_of file)
   reading_exact =
-      exact (read_table file) (Accepted (job_in file)) refuse (check_of file) refusal_number refusal_event (λ n m. (refl, refl))
-      (λ n m e. let z : ◌≡◌ {A = ℕ} 0 1 = cc in omega arith) read_ends
+      exact (read_table file) (Ok (job_in file)) refuse (check_of file) refusal_number refusal_event (λ n m. (refl, refl))
+      (λ f m e. cc) read_ends
 
   pub reading_numbers : ExactNumbers (read_table file) (refusal_number (check_of file)) (refusal_event (check_of file))
   reading_numbers =
-      exact_numbers (read_table file) (Accepted (job_in file)) refuse (check_of file) refusal_number refusal_event (λ n m. (refl, refl)) refl read_ends
+      exact_numbers (read_table file) (Ok (job_in file)) refuse (check_of file) refusal_number refusal_event (λ n m. (refl, refl)) refl read_ends

@@ -12,37 +12,37 @@ use lib.Arith.{digits_div, digits_mod}
 use borrow.Author.Tests.{ne_eqb, lt-ltb, eqb-true, eqb-false}
 use Rattle.jobfile.specs.declared.event.Event.{Event}
 use Rattle.jobfile.specs.declared.event.Event.TheVariants.{Read, Write}
-use Rattle.jobfile.specs.declared.coding.Decoded.TheVariants.{Event as An, Refused}
+use Rattle.std.specs.Prelude.{Result, Ok, Err}
+use Rattle.trailer.specs.declared.fault.Fault.{Fault}
+use Rattle.trailer.specs.declared.fault.Fault.TheVariants.{NoEvent}
+use Rattle.jobfile.specs.declared.open.Tasks.{Tasks}
 use Rattle.jobfile.proofs.Tests.{either}
 use Rattle.jobfile.specs.Coding.{event_of, told_of, decode_at}
 use Rattle.trailer.specs.Trailer.{word_at}
 use Rattle.jobfile.specs.Tasks.{bare_event, record_fault, step_on, step_of, Leads}
-use Rattle.jobfile.specs.declared.tasks.Step.{Step}
-use Rattle.jobfile.specs.declared.tasks.Step.TheVariants.{Go, Stop, NoEvent}
 
--- an event is no refusal
-no_event : {e : Event} {k : ℕ} → An e ≡ Refused k → ⊥
-no_event h = let z : ◌≡◌ {A = ℕ} 0 1 = cc in omega arith
+abbrev refused : Result Event Fault
+refused = Err NoEvent
 
-refused_both : (t : Bool) → cond t (Refused 8) (Refused 8) ≡ Refused 8
+refused_both : (t : Bool) → cond t refused refused ≡ refused
 refused_both true = refl
 refused_both false = refl
 
-refused_all : (a b : Bool) → cond a (Refused 8) (cond b (Refused 8) (Refused 8)) ≡ Refused 8
+refused_all : (a b : Bool) → cond a refused (cond b refused refused) ≡ refused
 refused_all true b = refl
 refused_all false b = refused_both b
 
 -- a kind that is none of the five is refused
 module _ (kind number : ℕ) (a : kind ≢ 1) (b : kind ≢ 2) (c : kind ≢ 3) (d : kind ≢ 4) (e : kind ≢ 5) where
-  none_told : told_of kind number ≡ Refused 8
+  none_told : told_of kind number ≡ Err NoEvent
   unfolding told_of
   none_told = rw (ne_eqb kind 1 a, ne_eqb kind 2 b, ne_eqb kind 3 c, ne_eqb kind 4 d, ne_eqb kind 5 e)
 
-  none_is : event_of kind 0 number ≡ Refused 8
+  none_is : event_of kind 0 number ≡ Err NoEvent
   unfolding event_of
   none_is = go (eqb kind 0) refl
     where
-      go : (t : Bool) → eqb kind 0 ≡ t → event_of kind 0 number ≡ Refused 8
+      go : (t : Bool) → eqb kind 0 ≡ t → event_of kind 0 number ≡ Err NoEvent
       go true q = rw (eqb-true kind 0 q)
       go false q =
           let n : kind ≢ 0 = eqb-false kind 0 q in
@@ -91,11 +91,11 @@ module _ (bytes : List ℕ) (at : ℕ) (kind : get_or bytes at 0 < 256) (second 
       rw (split, digits_div high below, digits_mod high below) (sym (told_is (get_or bytes at 0) (get_or bytes (at + 1) 0) high kind))
 
 -- a number below 4, but 0, is a kind with no record
-pub told_small : (w : ℕ) → w ≢ 0 → w < 4 → told_of (w % 65536) (w / 65536) ≡ An (bare_event (eqb w 1) (eqb w 2))
+pub told_small : (w : ℕ) → w ≢ 0 → w < 4 → told_of (w % 65536) (w / 65536) ≡ Ok (bare_event (eqb w 1) (eqb w 2))
 unfolding told_of
 told_small w z h = go (eqb w 1) refl (eqb w 2) refl
   where
-    go : (a : Bool) → eqb w 1 ≡ a → (b : Bool) → eqb w 2 ≡ b → told_of (w % 65536) (w / 65536) ≡ An (bare_event (eqb w 1) (eqb w 2))
+    go : (a : Bool) → eqb w 1 ≡ a → (b : Bool) → eqb w 2 ≡ b → told_of (w % 65536) (w / 65536) ≡ Ok (bare_event (eqb w 1) (eqb w 2))
     go true p b q = rw (eqb-true w 1 p)
     go false p true q = rw (eqb-true w 2 q)
     go false p false q =
@@ -105,7 +105,7 @@ told_small w z h = go (eqb w 1) refl (eqb w 2) refl
         rw c
 
 -- of any other number only an access can be told
-pub told_over : (w : ℕ) → (w ≡ 0) ⊎ (4 ≤ w) → (eqb (w % 65536) 4 || eqb (w % 65536) 5) ≡ false → told_of (w % 65536) (w / 65536) ≡ Refused 8
+pub told_over : (w : ℕ) → (w ≡ 0) ⊎ (4 ≤ w) → (eqb (w % 65536) 4 || eqb (w % 65536) 5) ≡ false → told_of (w % 65536) (w / 65536) ≡ Err NoEvent
 unfolding told_of
 told_over w o n = rw (bare 1 (omega arith), bare 2 (omega arith), bare 3 (omega arith), n)
   where
@@ -122,15 +122,14 @@ told_over w o n = rw (bare 1 (omega arith), bare 2 (omega arith), bare 3 (omega 
 
 -- reads and writes lead to the same
 pub told_access : (records n : ℕ) (tasks : List Bool) (kind number : ℕ) → (eqb kind 4 || eqb kind 5) ≡ true
-    → (s : Step) → Leads s records tasks n (An (Read number)) → Leads s records tasks n (told_of kind number)
+    → (s : Result Tasks Fault) → Leads s records tasks n (Ok (Read number)) → Leads s records tasks n (told_of kind number)
 unfolding told_of step_on record_fault
 told_access records n tasks kind number t s h =
     ⊎_elim (λ p. rw (eqb-true kind 4 p) h) (λ q. rw (eqb-true kind 5 q) (written s h)) (either (eqb kind 4) (eqb kind 5) t)
   where
-    same : step_of records tasks n (An (Write number)) ≡ step_of records tasks n (An (Read number))
+    same : step_of records tasks n (Ok (Write number)) ≡ step_of records tasks n (Ok (Read number))
     same = refl
 
-    written : (s : Step) → Leads s records tasks n (An (Read number)) → Leads s records tasks n (An (Write number))
-    written (Go depth waits m) h = same ∙ h
-    written (Stop k) h = same ∙ h
-    written NoEvent h = absurd (no_event h)
+    written : (s : Result Tasks Fault) → Leads s records tasks n (Ok (Read number)) → Leads s records tasks n (Ok (Write number))
+    written (Ok t) h = same ∙ h
+    written (Err f) (h, a, b) = (same ∙ h, a, b)

@@ -4,7 +4,7 @@ ghost use Rattle.std.specs.Prelude.{◌≡◌};
 ghost use Rattle.jobfile.specs.Events.{move_of, access_of};
 
 // One of five things; two carry a record.
-#[derive(Clone, Copy)]
+#[derive(Clone, Copy, Debug, PartialEq, Eq)]
 pub enum Event {
     Spawn,
     End,
@@ -15,7 +15,7 @@ pub enum Event {
 
 // What an event does to the structure: it opens a spawned task, closes the current one, joins what the current one has spawned, or
 // nothing.
-#[derive(Clone, Copy)]
+#[derive(Clone, Copy, Debug, PartialEq, Eq)]
 pub enum Move {
     Opens,
     Closes,
@@ -24,19 +24,20 @@ pub enum Move {
 }
 
 // How a record is accessed.
-#[derive(Clone, Copy)]
+#[derive(Clone, Copy, Debug, PartialEq, Eq)]
 pub enum Kind {
     Write,
     Read,
 }
 
-// What an event does to a record: nothing, or an access to it.
-#[derive(Clone, Copy)]
-pub enum Access {
-    None,
-    To { kind: Kind, record: u16 },
+// An access to a record.
+#[derive(Clone, Copy, Debug, PartialEq, Eq)]
+pub struct Access {
+    pub kind: Kind,
+    pub record: u16,
 }
 
+// What an event does to the structure.
 pub fn move_of(e: Event) -> Move
     ensures { result ≡ move_of e }
 {
@@ -49,20 +50,21 @@ pub fn move_of(e: Event) -> Move
     }
 }
 
-pub fn access_of(e: Event) -> Access
+// What an event does to a record: nothing, or an access to it.
+pub fn access_of(e: Event) -> Option<Access>
     ensures { result ≡ access_of e }
 {
     match e {
-        Event::Spawn => Access::None,
-        Event::End => Access::None,
-        Event::Sync => Access::None,
-        Event::Read(record) => Access::To {
+        Event::Spawn => None,
+        Event::End => None,
+        Event::Sync => None,
+        Event::Read(record) => Some(Access {
             kind: Kind::Read,
             record,
-        },
-        Event::Write(record) => Access::To {
+        }),
+        Event::Write(record) => Some(Access {
             kind: Kind::Write,
             record,
-        },
+        }),
     }
 }

@@ -5,7 +5,7 @@ use mathlib.Core.Bool.{cond}
 use lib.Dec.{eqb}
 use native.Mathlib.Omega.{arith}
 use Rattle.trailer.specs.declared.fault.Fault.{Fault}
-use Rattle.trailer.specs.declared.fault.Fault.TheVariants.{Short, Unmarked, RecordCount, EventCount, Distance, Outside, Name, Malformed, Record, RootEnded, TooDeep, TooManyStrands, LeftOpen, ShortBuffer, PastEvents, ShortOutput, NoLabels, NoAccess}
+use Rattle.trailer.specs.declared.fault.Fault.TheVariants.{Short, Unmarked, RecordCount, EventCount, Distance, Outside, Name, NoEvent, Record, RootEnded, TooDeep, TooManyStrands, LeftOpen, ShortBuffer, PastEvents, ShortOutput, NoLabels, NoAccess}
 use Rattle.trailer.specs.Numbers.{number_of}
 
 -- the kind of a number
@@ -18,7 +18,7 @@ kind_of n =
     (cond (eqb n 5) Distance
     (cond (eqb n 6) Outside
     (cond (eqb n 7) Name
-    (cond (eqb n 8) Malformed
+    (cond (eqb n 8) NoEvent
     (cond (eqb n 9) Record
     (cond (eqb n 10) RootEnded
     (cond (eqb n 11) TooDeep
@@ -39,7 +39,7 @@ kind_is EventCount = refl
 kind_is Distance = refl
 kind_is Outside = refl
 kind_is Name = refl
-kind_is Malformed = refl
+kind_is NoEvent = refl
 kind_is Record = refl
 kind_is RootEnded = refl
 kind_is TooDeep = refl
@@ -62,7 +62,7 @@ from_one EventCount = omega arith
 from_one Distance = omega arith
 from_one Outside = omega arith
 from_one Name = omega arith
-from_one Malformed = omega arith
+from_one NoEvent = omega arith
 from_one Record = omega arith
 from_one RootEnded = omega arith
 from_one TooDeep = omega arith

@@ -1,7 +1,7 @@
 -- The number that the rules give each kind of refusal.
 use Rattle.std.specs.Prelude.{ℕ}
 use Rattle.trailer.specs.declared.fault.Fault.{Fault}
-use Rattle.trailer.specs.declared.fault.Fault.TheVariants.{Short, Unmarked, RecordCount, EventCount, Distance, Outside, Name, Malformed, Record, RootEnded, TooDeep, TooManyStrands, LeftOpen, ShortBuffer, PastEvents, ShortOutput, NoLabels, NoAccess}
+use Rattle.trailer.specs.declared.fault.Fault.TheVariants.{Short, Unmarked, RecordCount, EventCount, Distance, Outside, Name, NoEvent, Record, RootEnded, TooDeep, TooManyStrands, LeftOpen, ShortBuffer, PastEvents, ShortOutput, NoLabels, NoAccess}
 
 abbrev pub number_of : Fault → ℕ
 -- "file under 16 bytes"
@@ -19,7 +19,7 @@ number_of Outside = 6
 -- "name over 64 bytes, or a byte outside 32 to 126"
 number_of Name = 7
 -- "kind not 1 to 5, second byte not 0, or a record on kinds 1 to 3"
-number_of Malformed = 8
+number_of NoEvent = 8
 -- "record at or over the record count"
 number_of Record = 9
 -- "end with only the root open"

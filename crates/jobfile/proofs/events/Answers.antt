@@ -6,20 +6,20 @@ use Rattle.jobfile.proofs.events.Goals as goal
 
 pub overflow_mul-end : goal.overflow_mul-end
 overflow_mul-end c =
-    let f = rw c.in-Accepted.is at c.check.ensures.fits in omega arith
+    let f = rw c.in-Ok.is at c.check.ensures.fits in omega arith
 
 pub overflow_add-end : goal.overflow_add-end
 overflow_add-end c =
-    let f = rw c.in-Accepted.is at c.check.ensures.fits in omega arith
+    let f = rw c.in-Ok.is at c.check.ensures.fits in omega arith
 
 pub slice_bounds-result-end : goal.slice_bounds-result-end
 slice_bounds-result-end c =
-    let f = rw c.in-Accepted.is at c.check.ensures.fits in omega arith
+    let f = rw c.in-Ok.is at c.check.ensures.fits in omega arith
 
-pub returns-in-Accepted : goal.returns-in-Accepted
-returns-in-Accepted c =
-    rw (sym c.check.ensures.answer ∙ c.in-Accepted.is) (record { bytes = simp add-sub_cancel_left; place = refl })
+pub returns-in-Ok : goal.returns-in-Ok
+returns-in-Ok c =
+    rw (sym c.check.ensures.answer ∙ c.in-Ok.is) (record { bytes = simp add-sub_cancel_left; place = refl })
 
-pub returns-in-Refused : goal.returns-in-Refused
-returns-in-Refused c =
-    rw (sym c.check.ensures.answer ∙ c.in-Refused.is) (record { bytes = refl; place = simp zero-add })
+pub returns-in-Err : goal.returns-in-Err
+returns-in-Err c =
+    rw (sym c.check.ensures.answer ∙ c.in-Err.is) (record { bytes = refl; place = simp zero-add })

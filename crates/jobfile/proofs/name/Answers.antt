@@ -8,12 +8,12 @@ use Rattle.jobfile.proofs.name.Goals as goal
 
 pub slice_bounds-result-end : goal.slice_bounds-result-end
 slice_bounds-result-end c =
-    let f = rw c.in-Accepted.is at c.check.ensures.fits in sym (length-take-le _ _ (omega arith))
+    let f = rw c.in-Ok.is at c.check.ensures.fits in sym (length-take-le _ _ (omega arith))
 
-pub returns-in-Accepted : goal.returns-in-Accepted
-returns-in-Accepted c =
-    rw (sym c.check.ensures.answer ∙ c.in-Accepted.is) (record { bytes = refl; place = simp zero-add })
+pub returns-in-Ok : goal.returns-in-Ok
+returns-in-Ok c =
+    rw (sym c.check.ensures.answer ∙ c.in-Ok.is) (record { bytes = refl; place = simp zero-add })
 
-pub returns-in-Refused : goal.returns-in-Refused
-returns-in-Refused c =
-    rw (sym c.check.ensures.answer ∙ c.in-Refused.is) (record { bytes = refl; place = simp zero-add })
+pub returns-in-Err : goal.returns-in-Err
+returns-in-Err c =
+    rw (sym c.check.ensures.answer ∙ c.in-Err.is) (record { bytes = refl; place = simp zero-add })
