@@ -1,5 +1,5 @@
 -- The answer of the question, by the facts that the code's tests leave. Assumes nothing.
-use mathlib.Core.Path.{◌≡◌, refl, sym, ap, ◌∙◌}
+use mathlib.Core.Path.{◌≡◌, refl, sym, ◌∙◌}
 use mathlib.Core.Bool.{Bool, true, false, ◌&&◌, false≢true}
 use mathlib.Core.List.{List}
 use Prim.Native.Nat.{ℕ, ◌≤◌, ◌<◌}
@@ -10,12 +10,12 @@ use Rattle.jobfile.specs.Refusals.{refusal_of}
 use Rattle.jobfile.specs.declared.event.Event.{Event}
 use Rattle.relation.specs.Between.{Stretch}
 use Rattle.jobfile.specs.declared.event.Move.{Move}
-use Rattle.jobfile.specs.declared.event.Access.{Access}
-use Rattle.jobfile.specs.Events.{access_of}
+use Rattle.std.specs.Prelude.{Ok, Err}
+use Rattle.trailer.specs.declared.fault.Fault.TheVariants.{PastEvents, NotAccess}
 use Rattle.jobfile.specs.Trace.{moves}
-use Rattle.relation.specs.Question.{is_access, access_at, compare_of, asked_of}
+use Rattle.relation.specs.Question.{access_at, compare_of, asked_of}
 use Rattle.relation.specs.Walk.{par}
-use Rattle.relation.specs.declared.Related.TheVariants.{Same, Before, After, Parallel, Refused}
+use Rattle.relation.specs.declared.Related.TheVariants.{Same, Before, After, Parallel}
 
 -- the events between two numbers below the count can be walked
 pub stretch_between : (part : List ℕ) (count p q : ℕ) → Stretch part 0 count → p ≤ q → q < count → Stretch part p q
@@ -47,10 +47,6 @@ module _ (mv : ℕ → Move) (i j : ℕ) where
   unfolding compare_of
   compare_after l f = rw (ne_eqb i j (λ e. omega arith), le-ltb i j (omega arith), f)
 
-pub access_below : (count n : ℕ) (x e : Event) (a : Access) (r : Bool) → n < count → x ≡ e → a ≡ access_of x → r ≡ is_access a
-    → r ≡ (ltb n count && is_access (access_of e))
-access_below count n x e a r l at of f = rw (lt-ltb n count l) (f ∙ ap is_access (of ∙ ap access_of at))
-
 -- a test of two tests that are told
 pub both_told : {a a' b b' r v : Bool} → a ≡ a' → b ≡ b' → r ≡ (a && b) → r ≡ v → (a' && b') ≡ v
 both_told p q e f = rw (← p, ← q) (sym e ∙ f)
@@ -65,7 +61,7 @@ both_below count i j e =
     (ltb-true i count b.0, ltb-true j count b.1)
 
 module _ (ev : ℕ → Event) (count i j : ℕ) where
-  pub asked_over : (ltb i count && ltb j count) ≡ false → asked_of ev count i j ≡ Refused (refusal_of 15 0)
+  pub asked_over : (ltb i count && ltb j count) ≡ false → asked_of ev count i j ≡ Err (refusal_of PastEvents 0)
   unfolding asked_of
   asked_over e = rw e
 
@@ -75,15 +71,15 @@ module _ (ev : ℕ → Event) (count i j : ℕ) where
     both_tested = let b = and_both (ltb i count) (ltb j count) below in rw (b.0, b.1)
 
     pub asked_no_access : ((ltb i count && access_at ev i) && (ltb j count && access_at ev j)) ≡ false
-        → asked_of ev count i j ≡ Refused (refusal_of 18 0)
+        → asked_of ev count i j ≡ Err (refusal_of NotAccess 0)
     unfolding asked_of
     asked_no_access e = rw (below, sym both_tested ∙ e)
 
     pub asked_accesses : ((ltb i count && access_at ev i) && (ltb j count && access_at ev j)) ≡ true
-        → asked_of ev count i j ≡ compare_of (moves ev) i j
+        → asked_of ev count i j ≡ Ok (compare_of (moves ev) i j)
     unfolding asked_of
     asked_accesses e = rw (below, sym both_tested ∙ e)
 
-  pub two_accesses : i < count → j < count → access_at ev i ≡ true → access_at ev j ≡ true → asked_of ev count i j ≡ compare_of (moves ev) i j
+  pub two_accesses : i < count → j < count → access_at ev i ≡ true → access_at ev j ≡ true → asked_of ev count i j ≡ Ok (compare_of (moves ev) i j)
   unfolding asked_of
   two_accesses l k a b = rw (lt-ltb i count l, lt-ltb j count k, a, b)

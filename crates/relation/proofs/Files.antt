@@ -6,18 +6,17 @@ use native.Mathlib.Omega.{arith}
 use lib.ListN.{length-take, length-drop}
 use Rattle.jobfile.proofs.Checking.{accepted, accepted_fits}
 use Rattle.jobfile.specs.File.{check_of, events_from}
-use Rattle.jobfile.specs.declared.Checked.TheVariants.{Accepted, Refused as Unread}
+use Rattle.std.specs.Prelude.{Ok, Err}
 use Rattle.jobfile.specs.declared.Job.{Job}
 use Rattle.jobfile.specs.declared.refusal.Refusal.{Refusal}
 use Rattle.relation.specs.Between.{Stretch}
 use Rattle.relation.specs.Question.{events_of, asked_of, question_of}
-use Rattle.relation.specs.declared.Related.TheVariants.{Refused}
 
-pub question_unread : (file : List ℕ) (i j : ℕ) (r : Refusal) → check_of file ≡ Unread r → question_of file i j ≡ Refused r
+pub question_unread : (file : List ℕ) (i j : ℕ) (r : Refusal) → check_of file ≡ Err r → question_of file i j ≡ Err r
 unfolding question_of
 question_unread file i j r e = rw e
 
-module _ (file : List ℕ) (job : Job) (e : check_of file ≡ Accepted job) where
+module _ (file : List ℕ) (job : Job) (e : check_of file ≡ Ok job) where
   pub question_asked : (i j : ℕ) → question_of file i j ≡ asked_of (events_of file job) job.events i j
   unfolding question_of
   question_asked i j = rw e

@@ -17,17 +17,19 @@ use Rattle.relation.specs.Parallel.{Rooted}
 use Rattle.relation.specs.Question.{Says, compare_of, question_of, answer_number}
 use Rattle.relation.specs.Rows.{asked_table, question_table}
 use Rattle.relation.specs.Gives.{Means, QuestionGives}
+use Rattle.std.specs.Prelude.{Result, Ok, Err}
+use Rattle.jobfile.specs.declared.refusal.Refusal.{Refusal}
 use Rattle.relation.specs.declared.Related.{Related}
-use Rattle.relation.specs.declared.Related.TheVariants.{Same, Before, After, Parallel, Refused}
+use Rattle.relation.specs.declared.Related.TheVariants.{Same, Before, After, Parallel}
 use Rattle.relation.proofs.Meaning.{compare_says}
 use Rattle.relation.proofs.Rows.{question_exact, question_numbers_lem}
 
-says_means : (mv : ℕ → Move) (i j : ℕ) (a : Related) → Says mv i j a → Means mv i j (answer_number a)
-says_means mv i j Same p = p
-says_means mv i j Before p = p
-says_means mv i j After p = p
-says_means mv i j Parallel p = p
-says_means mv i j (Refused r) p = absurd p
+says_means : (mv : ℕ → Move) (i j : ℕ) (a : Result Related Refusal) → Says mv i j a → Means mv i j (answer_number a)
+says_means mv i j (Ok Same) p = p
+says_means mv i j (Ok Before) p = p
+says_means mv i j (Ok After) p = p
+says_means mv i j (Ok Parallel) p = p
+says_means mv i j (Err r) p = absurd p
 
 less : (m n : ℕ) → ¬ (n ≤ m) → m < n
 less m n f = go (dec_le n m)
@@ -51,9 +53,9 @@ module _ (file : List ℕ) (i j : ℕ) (none : NoRow (question_table file i j)) 
   question_means =
       rw ((question_exact file i j).none.1 none)
       (let mv = moves (event_at (part_in file)) in
-      says_means mv i j (compare_of mv i j) (compare_says mv i j (rooted i below.0) (rooted j below.1)))
+      says_means mv i j (Ok (compare_of mv i j)) (compare_says mv i j (rooted i below.0) (rooted j below.1)))
 
-pub question_gives : (file : List ℕ) (i j : ℕ) (r : Related) → r ≡ question_of file i j → QuestionGives file i j r
+pub question_gives : (file : List ℕ) (i j : ℕ) (r : Result Related Refusal) → r ≡ question_of file i j → QuestionGives file i j r
 question_gives file i j r e = record {
   answer = e;
   told = rw e (question_numbers_lem file i j);

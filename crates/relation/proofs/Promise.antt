@@ -4,6 +4,8 @@ use mathlib.Core.Path.{◌≡◌, refl}
 use contract.Lifetimes.{Lfts}
 use denote.Triple.Clauses.{AtExit}
 use borrow.Fn.Kinds.{Dens, ended_of}
+use Rattle.std.specs.Prelude.{Result}
+use Rattle.jobfile.specs.declared.refusal.Refusal.{Refusal}
 use Rattle.relation.specs.declared.Related.{Related}
 use Rattle.relation.specs.Gives.{QuestionGives}
 use Rattle.relation.proofs.question.Kinds as kinds
@@ -21,5 +23,5 @@ module _ (κs : Lfts 1) (a : Dens κs kinds.ps) where
   question_asks = refl
 
   -- a: the arguments, s: what is left in what was lent
-  pub question_promises : (r : Related) (s : AtExit (ended_of 1 kinds.ps kinds.r) κs) → question.Post κs a r s ≡ QuestionGives a.0.now a.1.0 a.1.1.0 r
+  pub question_promises : (r : Result Related Refusal) (s : AtExit (ended_of 1 kinds.ps kinds.r) κs) → question.Post κs a r s ≡ QuestionGives a.0.now a.1.0 a.1.1.0 r
   question_promises r s = refl

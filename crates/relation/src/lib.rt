@@ -7,64 +7,49 @@
 mod between;
 
 ghost use Rattle.std.specs.Prelude.{◌≡◌, ◌&&◌, ◌<◌, ltb};
-ghost use Rattle.jobfile.specs.Lent.{was};
 ghost use Rattle.jobfile.specs.Trace.{event_at, moves};
 ghost use Rattle.relation.specs.Between.{Stretch};
 ghost use Rattle.relation.specs.Gives.{QuestionGives};
-ghost use Rattle.relation.specs.Question.{asked_of, compare_of, is_access, access_at};
+ghost use Rattle.relation.specs.Question.{asked_of, compare_of, access_at};
 
 use between::parallel;
-use jobfile::{Access, Checked, Refusal, access_of, check, event_at, refuse};
+use jobfile::{Refusal, access_of, check, event_at};
+use trailer::Fault;
 
 // How the first of two accesses stands to the second.
-#[derive(Clone, Copy)]
+#[derive(Clone, Copy, Debug, PartialEq, Eq)]
 pub enum Related {
     Same,
     Before,
     After,
     Parallel,
-    Refused(Refusal),
 }
 
 // The question about events i and j of a file: the check of the file, then one pass over the
 // events between the two.
-pub fn question(file: &[u8], i: usize, j: usize) -> Related
+pub fn question(file: &[u8], i: usize, j: usize) -> Result<Related, Refusal>
     ensures { QuestionGives file.now i j result }
 {
-    match check(file) {
-        Checked::Refused(r) => Related::Refused(r),
-        Checked::Accepted(job) => {
-            let start = job.start;
-            let end = start + 4 * job.events;
-            asked(&file[start..end], job.events, i, j)
-        }
-    }
+    let job = check(file)?;
+    let end = job.start + 4 * job.events;
+    asked(&file[job.start..end], job.events, i, j)
 }
 
 // The question about events i and j of an accepted file's events, of which there are `count`.
 // requires: the part holds the events, and no end closes the root.
-fn asked(part: &[u8], count: usize, i: usize, j: usize) -> Related
+fn asked(part: &[u8], count: usize, i: usize, j: usize) -> Result<Related, Refusal>
     requires { Stretch part.now 0 count }
     ensures { result ≡ asked_of (event_at part.now) count i j }
 {
-    let below = both(i < count, j < count);
-    let access = both(access_at(part, count, i), access_at(part, count, j));
+    let below = i < count && j < count;
+    let access = access_at(part, count, i) && access_at(part, count, j);
     if !below {
-        return Related::Refused(refuse(15, 0));
+        return Err(Fault::PastEvents.into());
     }
     if !access {
-        return Related::Refused(refuse(18, 0));
+        return Err(Fault::NotAccess.into());
     }
-    compare(part, count, i, j)
-}
-
-fn both(a: bool, b: bool) -> bool
-    ensures { result ≡ (a && b) }
-{
-    if a {
-        return b;
-    }
-    false
+    Ok(compare(part, count, i, j))
 }
 
 // Whether n is the number of an access.
@@ -73,20 +58,7 @@ fn access_at(part: &[u8], count: usize, n: usize) -> bool
     requires { Stretch part.now 0 count }
     ensures { result ≡ (ltb n count && access_at (event_at part.now) n) }
 {
-    if n >= count {
-        return false;
-    }
-    is_access(access_of(event_at(part, n)))
-}
-
-// Whether it is an access at all.
-fn is_access(a: Access) -> bool
-    ensures { result ≡ is_access a }
-{
-    match a {
-        Access::None => false,
-        Access::To { kind: _, record: _ } => true,
-    }
+    n < count && access_of(event_at(part, n)).is_some()
 }
 
 // The answer about two accesses of an accepted file's events.

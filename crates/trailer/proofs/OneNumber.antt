@@ -5,7 +5,7 @@ use mathlib.Core.Bool.{cond}
 use lib.Dec.{eqb}
 use native.Mathlib.Omega.{arith}
 use Rattle.trailer.specs.declared.fault.Fault.{Fault}
-use Rattle.trailer.specs.declared.fault.Fault.TheVariants.{Short, Unmarked, RecordCount, EventCount, Distance, Outside, Name, NoEvent, Record, RootEnded, TooDeep, TooManyStrands, LeftOpen, ShortBuffer, PastEvents, ShortOutput, NoLabels, NoAccess}
+use Rattle.trailer.specs.declared.fault.Fault.TheVariants.{Short, Unmarked, RecordCount, EventCount, Distance, Outside, Name, NoEvent, Record, RootEnded, TooDeep, TooManyStrands, LeftOpen, ShortBuffer, PastEvents, ShortOutput, NoLabels, NotAccess}
 use Rattle.trailer.specs.Numbers.{number_of}
 
 -- the kind of a number
@@ -28,7 +28,7 @@ kind_of n =
     (cond (eqb n 15) PastEvents
     (cond (eqb n 16) ShortOutput
     (cond (eqb n 17) NoLabels
-    NoAccess))))))))))))))))
+    NotAccess))))))))))))))))
 
 kind_is : (f : Fault) → kind_of (number_of f) ≡ f
 unfolding kind_of
@@ -49,7 +49,7 @@ kind_is ShortBuffer = refl
 kind_is PastEvents = refl
 kind_is ShortOutput = refl
 kind_is NoLabels = refl
-kind_is NoAccess = refl
+kind_is NotAccess = refl
 
 pub one_kind : (f g : Fault) → number_of f ≡ number_of g → f ≡ g
 one_kind f g e = sym (kind_is f) ∙ ap kind_of e ∙ kind_is g
@@ -72,4 +72,4 @@ from_one ShortBuffer = omega arith
 from_one PastEvents = omega arith
 from_one ShortOutput = omega arith
 from_one NoLabels = omega arith
-from_one NoAccess = omega arith
+from_one NotAccess = omega arith

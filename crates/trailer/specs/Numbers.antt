@@ -1,7 +1,7 @@
 -- The number that the rules give each kind of refusal.
 use Rattle.std.specs.Prelude.{ℕ}
 use Rattle.trailer.specs.declared.fault.Fault.{Fault}
-use Rattle.trailer.specs.declared.fault.Fault.TheVariants.{Short, Unmarked, RecordCount, EventCount, Distance, Outside, Name, NoEvent, Record, RootEnded, TooDeep, TooManyStrands, LeftOpen, ShortBuffer, PastEvents, ShortOutput, NoLabels, NoAccess}
+use Rattle.trailer.specs.declared.fault.Fault.TheVariants.{Short, Unmarked, RecordCount, EventCount, Distance, Outside, Name, NoEvent, Record, RootEnded, TooDeep, TooManyStrands, LeftOpen, ShortBuffer, PastEvents, ShortOutput, NoLabels, NotAccess}
 
 abbrev pub number_of : Fault → ℕ
 -- "file under 16 bytes"
@@ -39,4 +39,4 @@ number_of ShortOutput = 16
 -- "no label room even after respacing"
 number_of NoLabels = 17
 -- "question about an event that is no access"
-number_of NoAccess = 18
+number_of NotAccess = 18

@@ -22,7 +22,7 @@ pub enum Fault {
     PastEvents,
     ShortOutput,
     NoLabels,
-    NoAccess,
+    NotAccess,
 }
 
 impl Fault {
@@ -48,7 +48,7 @@ impl Fault {
             Fault::PastEvents => 15,
             Fault::ShortOutput => 16,
             Fault::NoLabels => 17,
-            Fault::NoAccess => 18,
+            Fault::NotAccess => 18,
         }
     }
 }
