@@ -6,13 +6,6 @@ ghost use Rattle.jobfile.specs.Trace.{event_at};
 use crate::event::Event;
 use trailer::Fault;
 
-// Two bytes as a number, the low one first.
-fn pair(low: u8, high: u8) -> u16
-    ensures { result ≡ low + 256 * high }
-{
-    (low as u16) + 256 * (high as u16)
-}
-
 // The event of a kind and a record. A kind of two bytes is one of 1 to 5 only if the second byte is 0, so the refusal is what is left.
 // Told in this order, a processor guesses few branches wrong: one at a spawn, end or sync, and at an access only whether it is a write.
 fn event_of(kind: u16, number: u16) -> Result<Event, Fault>
@@ -51,10 +44,9 @@ pub fn decode(part: &[u8], at: usize) -> Result<Event, Fault>
     ensures value { result ≡ decode_at part.now at }
     ensures decode_fits { DecodeFits result }
 {
-    event_of(
-        pair(part[at], part[at + 1]),
-        pair(part[at + 2], part[at + 3]),
-    )
+    let kind = u16::from_le_bytes([part[at], part[at + 1]]);
+    let number = u16::from_le_bytes([part[at + 2], part[at + 3]]);
+    event_of(kind, number)
 }
 
 // Event number n of a part. Bytes that are refused stand for a sync; an accepted file shows none.

@@ -1,64 +1,59 @@
 -- Rows 1 to 7: the head of a file is refused by the first that holds, and read by the trailer's words where none does. Assumes nothing.
 use Prim.Native.Nat.{ℕ, zero, suc, ◌*◌, ◌-◌, ◌≤◌, ◌<◌}
-use mathlib.Core.Path.{◌≡◌, refl, sym, ap, ◌∙◌}
+use mathlib.Core.Path.{◌≡◌, refl, sym, ◌∙◌}
 use mathlib.Core.Logic.{◌⊎◌, inl, inr}
 use mathlib.Core.List.{List, [], ◌∷◌}
 use mathlib.Core.Bool.{Bool, true, false, cond, false≢true}
-use lib.ListN.{length, get_or, take, drop, length-drop}
+use lib.ListN.{length, get_or, take, drop}
 use lib.Seq.{length-take-le}
 use lib.Dec.{eqb, ltb}
 use native.Mathlib.Omega.{arith}
 use borrow.Author.Tests.{eqb-true, eqb-false, ltb-true, ltb-false}
-use Rattle.std.specs.Prelude.{Result, Ok, Err}
+use Rattle.std.specs.Prelude.{nat_eq, nat_le, ◌&&◌, Result, Ok, Err}
+use Rattle.std.specs.List.{ends_with}
+use Rattle.std.specs.Bool.{Decides}
+use Rattle.std.specs.Cmp.Lexicographic.{bytes_decides}
+use Rattle.std.proofs.lemmas.Bool.{leb-true, leb-false}
 use Rattle.std.proofs.lemmas.Result.{IfOk-at_ok}
 use Rattle.trailer.specs.declared.Head.{Head}
 use Rattle.trailer.specs.declared.fault.Fault.{Fault}
 use Rattle.trailer.specs.declared.fault.Fault.TheVariants.{Short, Unmarked, RecordCount, EventCount, Distance, Outside, Name}
 use Rattle.trailer.specs.Numbers.{number_of}
-use Rattle.trailer.specs.Trailer.{mark, starts_with, printable, start_in, head_named, head_sized, head_of, HeadFits}
+use Rattle.trailer.specs.Trailer.{mark, printable, start_in, head_named, head_sized, head_of, HeadFits}
 use Rattle.trailer.specs.Table.{Rows, row, Nowhere, Table, Given, NoRow}
 use Rattle.trailer.specs.Rows.{distance_of, count_of, records_of, start_of, RecordCountOut, EventCountOver, ByteOut, NameOut, head_table}
 use Rattle.trailer.proofs.Table.{first_row, not_row}
 
--- bytes that stand at the front and are as many are all
-starts_same : (xs ws : List ℕ) → starts_with xs ws ≡ true → length xs ≡ length ws → xs ≡ ws
-unfolding starts_with
-starts_same [] [] e l = refl
-starts_same [] (w ∷ ws) e l = absurd (omega arith)
-starts_same (x ∷ xs) [] e l = absurd (omega arith)
-starts_same (x ∷ xs) (w ∷ ws) e l = by (eqb x w) refl e (λ z. starts_same xs ws z (omega arith))
-  where
-    by : (b : Bool) → eqb x w ≡ b → cond b (starts_with xs ws) false ≡ true → (starts_with xs ws ≡ true → xs ≡ ws) → x ∷ xs ≡ w ∷ ws
-    by true q z rest = let y = rest z in let t = eqb-true x w q in cc
-    by false q z rest = absurd (false≢true z)
+-- a file of four bytes and more ends with the mark exactly if its last four bytes are the mark
+marked_is : (file : List ℕ) → Decides (ends_with nat_eq file mark) (mark ≡ drop (length file - 4) file)
+marked_is file = bytes_decides mark (drop (length file - 4) file)
 
-unmarked : (xs : List ℕ) → starts_with xs mark ≡ false → ¬ (xs ≡ mark)
-unfolding starts_with
-unmarked xs e m = false≢true (sym e ∙ ap (λ (s : List ℕ). starts_with s mark) m)
+unmarked : (file : List ℕ) → ends_with nat_eq file mark ≡ false → ¬ (drop (length file - 4) file ≡ mark)
+unmarked file e m = false≢true (sym e ∙ (marked_is file).1 (sym m))
 
 unprintable : (xs : List ℕ) → printable xs ≡ false → ByteOut xs
 unfolding printable
 unprintable [] e = absurd (false≢true (sym e))
-unprintable (x ∷ xs) e = by (ltb x 32) refl (ltb 126 x) refl e (unprintable xs)
+unprintable (x ∷ xs) e = by (nat_le 32 x) refl (nat_le x 126) refl e (unprintable xs)
   where
-    by : (a : Bool) → ltb x 32 ≡ a → (b : Bool) → ltb 126 x ≡ b → cond a false (cond b false (printable xs)) ≡ false
+    by : (a : Bool) → nat_le 32 x ≡ a → (b : Bool) → nat_le x 126 ≡ b → ((a && b) && printable xs) ≡ false
         → (printable xs ≡ false → ByteOut xs) → ByteOut (x ∷ xs)
-    by true p b q z rest = (0, omega arith, inl (ltb-true x 32 p))
-    by false p true q z rest = (0, omega arith, inr (ltb-true 126 x q))
-    by false p false q z rest = let r = rest z in (suc r.0, omega arith, r.2)
+    by false p b q z rest = (0, omega arith, inl (leb-false 32 x p))
+    by true p false q z rest = (0, omega arith, inr (leb-false x 126 q))
+    by true p true q z rest = let r = rest z in (suc r.0, omega arith, r.2)
 
 printed : (xs : List ℕ) → printable xs ≡ true → ¬ ByteOut xs
 unfolding printable
 printed [] e o = omega arith
-printed (x ∷ xs) e o = by (ltb x 32) refl (ltb 126 x) refl e (printed xs) o.0 o.1 o.2
+printed (x ∷ xs) e o = by (nat_le 32 x) refl (nat_le x 126) refl e (printed xs) o.0 o.1 o.2
   where
-    by : (a : Bool) → ltb x 32 ≡ a → (b : Bool) → ltb 126 x ≡ b → cond a false (cond b false (printable xs)) ≡ true
+    by : (a : Bool) → nat_le 32 x ≡ a → (b : Bool) → nat_le x 126 ≡ b → ((a && b) && printable xs) ≡ true
         → (printable xs ≡ true → ¬ ByteOut xs) → (i : ℕ) → i < length (x ∷ xs) → (get_or (x ∷ xs) i 0 < 32) ⊎ (126 < get_or (x ∷ xs) i 0) → ⊥
-    by true p b q z rest i l o = false≢true z
-    by false p true q z rest i l o = false≢true z
-    by false p false q z rest zero l (inl o) = omega (arith, ltb-false x 32 p)
-    by false p false q z rest zero l (inr o) = omega (arith, ltb-false 126 x q)
-    by false p false q z rest (suc i) l o = rest z (i, omega arith, o)
+    by false p b q z rest i l o = false≢true z
+    by true p false q z rest i l o = false≢true z
+    by true p true q z rest zero l (inl o) = omega (arith, leb-true 32 x p)
+    by true p true q z rest zero l (inr o) = omega (arith, leb-true x 126 q)
+    by true p true q z rest (suc i) l o = rest z (i, omega arith, o)
 
 -- numbers that are not apart are the same
 stable : (m n : ℕ) → ¬ ¬ (m ≡ n) → m ≡ n
@@ -68,12 +63,12 @@ stable m n f = by (eqb m n) refl
     by true q = eqb-true m n q
     by false q = absurd (f (eqb-false m n q))
 
-mark_stable : (xs : List ℕ) → length xs ≡ 4 → ¬ ¬ (xs ≡ mark) → xs ≡ mark
-mark_stable xs l f = by (starts_with xs mark) refl
+mark_stable : (file : List ℕ) → ¬ ¬ (drop (length file - 4) file ≡ mark) → drop (length file - 4) file ≡ mark
+mark_stable file f = by (ends_with nat_eq file mark) refl
   where
-    by : (b : Bool) → starts_with xs mark ≡ b → xs ≡ mark
-    by true q = starts_same xs mark q l
-    by false q = absurd (f (unmarked xs q))
+    by : (b : Bool) → ends_with nat_eq file mark ≡ b → drop (length file - 4) file ≡ mark
+    by true q = sym ((marked_is file).0 q)
+    by false q = absurd (f (unmarked file q))
 
 -- within the bounds of rows 3 and 7
 pub count_in : (n : ℕ) → ¬ (n ≡ 0) → n ≤ 4096 → ¬ RecordCountOut n
@@ -171,7 +166,7 @@ module _ (file : List ℕ) where
 
   pub head_ends : HeadEnds (head_table file) (head_of file)
   unfolding head_of
-  head_ends = by (ltb (length file) 16) refl (starts_with last mark) refl
+  head_ends = by (ltb (length file) 16) refl (ends_with nat_eq file mark) refl
     where
       last : List ℕ
       last = drop (length file - 4) file
@@ -179,14 +174,13 @@ module _ (file : List ℕ) where
       long : ltb (length file) 16 ≡ false → Nowhere (row 1 (length file < 16))
       long p = not_row (λ l. omega (arith, ltb-false (length file) 16 p))
 
-      by : (a : Bool) → ltb (length file) 16 ≡ a → (b : Bool) → starts_with last mark ≡ b
+      by : (a : Bool) → ltb (length file) 16 ≡ a → (b : Bool) → ends_with nat_eq file mark ≡ b
           → HeadEnds (head_table file)
           (cond a (Err Short) (cond b (head_sized file before (distance_of file) (count_of file) (records_of file)) (Err Unmarked)))
       by true p b q = inr (Short, refl, inl (first_row 1 (ltb-true (length file) 16 p)))
-      by false p false q = inr (Unmarked, refl, inr (long p, inl (first_row 2 (unmarked last q))))
+      by false p false q = inr (Unmarked, refl, inr (long p, inl (first_row 2 (unmarked file q))))
       by false p true q =
-          let four : length last ≡ 4 = omega (arith, length-drop (length file - 4) file, ltb-false (length file) 16 p) in
-          let marked : Nowhere (row 2 (¬ (last ≡ mark))) = not_row (λ n. n (starts_same last mark q four)) in
+          let marked : Nowhere (row 2 (¬ (last ≡ mark))) = not_row (λ n. n (sym ((marked_is file).0 q))) in
           past (row 1 (length file < 16)) (row 2 (¬ (last ≡ mark)) ∷ sizes) _ (long p) (past (row 2 (¬ (last ≡ mark))) sizes _ marked sized)
 
   -- what a file says of which no row of the head holds
@@ -209,10 +203,9 @@ module _ (file : List ℕ) where
       let over : ¬ (1000000 < count_of file) = λ l. none.1.1.1.0 4 0 (refl, refl, l) in
       let outside : ¬ (before < distance_of file) = λ l. none.1.1.1.1.1.0 6 0 (refl, refl, l) in
       let out : ¬ NameOut named = λ o. none.1.1.1.1.1.1.0 7 0 (refl, refl, o) in
-      let size : length (drop (length file - 4) file) ≡ 4 = omega (arith, length-drop (length file - 4) file, under) in
       record {
         long = omega (arith, under);
-        marked = mark_stable (drop (length file - 4) file) size (λ f. none.1.0 2 0 (refl, refl, f));
+        marked = mark_stable file (λ f. none.1.0 2 0 (refl, refl, f));
         some = omega (arith, zero);
         few = omega (arith, many);
         not_over = omega (arith, over);

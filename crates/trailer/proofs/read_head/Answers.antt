@@ -1,36 +1,32 @@
 -- `jobfile::trailer::read_head` meets its contract: each return is one of the ways that `head_of` goes, and past the first two tests the head is
 -- what `head_sized` makes of the three numbers that were read. Assumes nothing.
-use native.Mathlib.Omega.{arith}
 use Prim.Native.Nat.{◌-◌}
 use mathlib.Core.Path.{◌≡◌, sym, ap, ◌∙◌}
 use mathlib.Core.Bool.{cond}
-use lib.ListN.{length, drop}
+use lib.ListN.{length}
 use Rattle.std.specs.Prelude.{Ok, Err}
 use Rattle.std.proofs.lemmas.Result.{err_from_is_err_and}
 use Rattle.trailer.specs.declared.fault.Fault.TheVariants.{Name}
-use Rattle.trailer.specs.Trailer.{head_of, head_sized, starts_with, mark}
-use Rattle.trailer.proofs.NameAndTrailer.{tail_part, head_short, head_mark, head_sized_lem, sized_fault, sized_name}
+use Rattle.trailer.specs.Trailer.{head_of, head_sized}
+use Rattle.trailer.proofs.NameAndTrailer.{head_short, head_mark, head_sized_lem, sized_fault, sized_name}
 use Rattle.trailer.proofs.read_head.Goals as goal
-use Rattle.trailer.proofs.read_head.Goals.{After-printable, After-starts_with, After-start_in}
-
-mark_is : (c : After-starts_with) → let f = c.args.file.now in c.starts_with.result ≡ starts_with (drop (length f - 4) f) mark
-mark_is c = rw tail_part at c.starts_with.ensures
+use Rattle.trailer.proofs.read_head.Goals.{After-printable, After-start_in}
 
 -- past the first two tests, the head is what `head_sized` makes of the numbers that were read
 sized_is : (c : After-start_in)
     → let f = c.args.file.now in
     head_of f ≡ head_sized f (length f - 16) c.word-distance.result c.word-count.result c.word-records.result
 sized_is c =
-    head_sized_lem _ _ _ _ c.if-n-lt16.false (sym (rw tail_part at c.starts_with.ensures) ∙ c.if-not-starts_with.false)
+    head_sized_lem _ _ _ _ c.if-n-lt16.false (sym c.ends_with.ensures.value ∙ c.if-not-ends_with.false)
     c.word-distance.ensures.value c.word-count.ensures.value c.word-records.ensures.value
 
 pub returns-then-n-lt16-clause-value : goal.returns-then-n-lt16-clause-value
 returns-then-n-lt16-clause-value c =
     sym (head_short _ c.if-n-lt16.true)
 
-pub returns-then-not-starts_with-clause-value : goal.returns-then-not-starts_with-clause-value
-returns-then-not-starts_with-clause-value c =
-    sym (head_mark _ (omega arith) (sym (mark_is (goal.at.returns-then-not-starts_with-clause-value c).After-starts_with) ∙ c.if-not-starts_with.true))
+pub returns-then-not-ends_with-clause-value : goal.returns-then-not-ends_with-clause-value
+returns-then-not-ends_with-clause-value c =
+    sym (head_mark _ c.if-n-lt16.false (sym c.ends_with.ensures.value ∙ c.if-not-ends_with.true))
 
 pub returns-in_err-start-clause-value : goal.returns-in_err-start-clause-value
 returns-in_err-start-clause-value c =

@@ -1,8 +1,10 @@
--- `jobfile::trailer::word` meets its contract: `word_at` is `quad` of the four bytes that are read. Assumes nothing.
+-- `trailer::word` meets its contract: the library's number of four bytes is `quad` of them. Assumes nothing.
+use native.Mathlib.Omega.{arith}
+use mathlib.Core.Path.{◌∙◌}
 use Rattle.trailer.specs.Trailer.{word_at}
 use Rattle.trailer.proofs.word.Goals as goal
 
-pub returns : goal.returns
+pub returns-clause-value : goal.returns-clause-value
 unfolding word_at
-returns c =
-    let it = c.quad.ensures in record { value = it.value; upper_bound = it.upper_bound }
+returns-clause-value c =
+    c.from_le_bytes.ensures ∙ omega arith
