@@ -8,7 +8,7 @@ use Rattle.jobfile.specs.File.{check_of, CheckFits, refusal_number}
 use Rattle.jobfile.specs.Rows.{job_in}
 use Rattle.jobfile.specs.Gives.{Reads, CheckGives}
 use Rattle.std.specs.Prelude.{Result, Ok, Err}
-use Rattle.jobfile.specs.declared.Job.{Job}
+use Rattle.jobfile.specs.declared.job.Job.{Job}
 use Rattle.jobfile.specs.declared.refusal.Refusal.{Refusal}
 use Rattle.jobfile.proofs.Rows.{reading_exact, reading_numbers}
 

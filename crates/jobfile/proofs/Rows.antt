@@ -20,7 +20,7 @@ use Rattle.trailer.proofs.Table.{first_row, not_row, given_front, given_back, no
 use Rattle.trailer.proofs.Rows.{HeadEnds, head_ends, words}
 use Rattle.jobfile.specs.declared.event.Move.{Move}
 use Rattle.std.specs.Prelude.{Result, Ok, Err}
-use Rattle.jobfile.specs.declared.Job.{Job}
+use Rattle.jobfile.specs.declared.job.Job.{Job}
 use Rattle.jobfile.specs.declared.refusal.Refusal.{Refusal}
 use Rattle.trailer.specs.declared.fault.Fault.{Fault}
 use Rattle.trailer.specs.declared.fault.Fault.TheVariants.{LeftOpen}

@@ -4,7 +4,7 @@ use Rattle.trailer.specs.Table.{ExactNumbers}
 use Rattle.trailer.specs.Rows.{start_of, count_of, records_of}
 use Rattle.jobfile.specs.File.{check_of, CheckFits, refusal_number, refusal_event, name_length, event_count, record_count}
 use Rattle.jobfile.specs.Rows.{read_table}
-use Rattle.jobfile.specs.declared.Job.{Job}
+use Rattle.jobfile.specs.declared.job.Job.{Job}
 use Rattle.jobfile.specs.declared.refusal.Refusal.{Refusal}
 
 -- "Reading gives the name, the event part and the record count"

@@ -7,6 +7,7 @@
 
 mod coding;
 mod event;
+mod job;
 mod open;
 mod refusal;
 mod tasks;
@@ -18,18 +19,9 @@ ghost use Rattle.jobfile.specs.Part.{Part};
 
 pub use coding::{decode, event_at};
 pub use event::{Access, Event, Kind, Move, access_of, move_of};
+pub use job::Job;
 pub use refusal::Refusal;
 pub use tasks::trace;
-
-// What an accepted file gives: where the events start, which is the name's length, how many they
-// are, the record count, and how many strands begin.
-#[derive(Clone, Copy)]
-pub struct Job {
-    pub start: usize,
-    pub events: usize,
-    pub records: usize,
-    pub strands: usize,
-}
 
 // The check of a whole file: refusals 1 to 13.
 pub fn check(file: &[u8]) -> Result<Job, Refusal>
@@ -52,7 +44,7 @@ pub fn name<'a>(file: &'a [u8]) -> &'a [u8]
     ensures { Part result file.entry 0 (name_length (check_of file.now)) }
 {
     match check(file) {
-        Ok(job) => &file[..job.start],
+        Ok(job) => job.name(file),
         Err(_) => &file[..0],
     }
 }
@@ -63,10 +55,7 @@ pub fn events<'a>(file: &'a [u8]) -> &'a [u8]
     ensures { Part result file.entry (name_length (check_of file.now)) (4 * event_count (check_of file.now)) }
 {
     match check(file) {
-        Ok(job) => {
-            let end = job.start + 4 * job.events;
-            &file[job.start..end]
-        }
+        Ok(job) => job.part(file),
         Err(_) => &file[..0],
     }
 }

@@ -4,7 +4,7 @@ use Rattle.jobfile.specs.Trace.{event_at, moves}
 use Rattle.jobfile.specs.File.{check_of, event_part}
 use Rattle.jobfile.specs.declared.event.Event.{Event}
 use Rattle.jobfile.specs.declared.event.Move.{Move}
-use Rattle.jobfile.specs.declared.Job.{Job}
+use Rattle.jobfile.specs.declared.job.Job.{Job}
 use Rattle.jobfile.specs.declared.Checked.TheVariants.{Accepted}
 use Rattle.orders.specs.Lists.{Pairs}
 use Rattle.orders.specs.Order.{Order, label_in, next_in, back_in, order_of, back_order_of, differ}

@@ -11,7 +11,7 @@ use lib.Seq.{length-take-le}
 use Rattle.jobfile.specs.Refusals.{refusal_of}
 use Rattle.jobfile.specs.Trace.{event_at}
 use Rattle.jobfile.specs.File.{check_of, name_length, event_count, events_from, event_part}
-use Rattle.jobfile.specs.declared.Job.{Job}
+use Rattle.jobfile.specs.declared.job.Job.{Job}
 use Rattle.jobfile.specs.declared.refusal.Refusal.{Refusal}
 use Rattle.jobfile.specs.declared.Checked.{Checked}
 use Rattle.jobfile.specs.declared.Checked.TheVariants.{Accepted, Refused as Unread}

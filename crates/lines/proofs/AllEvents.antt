@@ -11,7 +11,7 @@ use borrow.Author.Tests.{eqb-true, eqb-false}
 use Rattle.jobfile.specs.Refusals.{refusal_of}
 use Rattle.jobfile.specs.Trace.{event_at}
 use Rattle.jobfile.specs.File.{check_of, event_count, events_from}
-use Rattle.jobfile.specs.declared.Job.{Job}
+use Rattle.jobfile.specs.declared.job.Job.{Job}
 use Rattle.jobfile.specs.declared.refusal.Refusal.{Refusal}
 use Rattle.jobfile.specs.declared.Checked.TheVariants.{Accepted, Refused as Unread}
 use Rattle.jobfile.proofs.Checking.{accepted_fits, accepted}

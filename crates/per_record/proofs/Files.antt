@@ -10,7 +10,7 @@ use borrow.Author.Tests.{ne_eqb}
 use Rattle.jobfile.specs.Refusals.{refusal_of}
 use Rattle.jobfile.specs.Trace.{event_at}
 use Rattle.jobfile.specs.File.{check_of, event_part, events_from, record_count}
-use Rattle.jobfile.specs.declared.Job.{Job}
+use Rattle.jobfile.specs.declared.job.Job.{Job}
 use Rattle.jobfile.specs.declared.event.Event.{Event}
 use Rattle.jobfile.specs.declared.refusal.Refusal.{Refusal}
 use Rattle.jobfile.specs.declared.Checked.TheVariants.{Accepted, Refused as Unread}

@@ -10,7 +10,7 @@ use borrow.Author.Tests.{eqb-true}
 use Rattle.jobfile.specs.Trace.{event_at, moves}
 use Rattle.jobfile.specs.File.{check_of, event_part}
 use Rattle.jobfile.proofs.Checking.{accepted_part}
-use Rattle.jobfile.specs.declared.Job.{Job}
+use Rattle.jobfile.specs.declared.job.Job.{Job}
 use Rattle.jobfile.specs.declared.refusal.Refusal.{Refusal}
 use Rattle.jobfile.specs.declared.Checked.{Checked}
 use Rattle.jobfile.specs.declared.Checked.TheVariants.{Accepted, Refused as Unread}

@@ -7,7 +7,7 @@ use lib.ListN.{length-take, length-drop}
 use Rattle.jobfile.proofs.Checking.{accepted, accepted_fits}
 use Rattle.jobfile.specs.File.{check_of, events_from}
 use Rattle.std.specs.Prelude.{Ok, Err}
-use Rattle.jobfile.specs.declared.Job.{Job}
+use Rattle.jobfile.specs.declared.job.Job.{Job}
 use Rattle.jobfile.specs.declared.refusal.Refusal.{Refusal}
 use Rattle.relation.specs.Between.{Stretch}
 use Rattle.relation.specs.Question.{events_of, asked_of, question_of}

@@ -12,7 +12,7 @@ use Rattle.trailer.specs.Rows.{count_of}
 use Rattle.trailer.proofs.Table.{first_row, not_row, given_front, Ends, ends_behind, exact, exact_numbers}
 use Rattle.std.specs.Prelude.{Result, Ok, Err}
 use Rattle.jobfile.specs.declared.refusal.Refusal.{Refusal}
-use Rattle.jobfile.specs.declared.Job.{Job}
+use Rattle.jobfile.specs.declared.job.Job.{Job}
 use Rattle.trailer.specs.declared.fault.Fault.{Fault}
 use Rattle.trailer.specs.declared.fault.Fault.TheVariants.{PastEvents, NotAccess}
 use Rattle.trailer.specs.Numbers.{number_of}

@@ -6,7 +6,7 @@ use Rattle.jobfile.specs.Refusals.{refusal_of, number_in}
 use Rattle.jobfile.specs.Trace.{event_at, moves}
 use Rattle.jobfile.specs.declared.refusal.Refusal.{Refusal}
 use Rattle.trailer.specs.declared.fault.Fault.TheVariants.{PastEvents, NotAccess}
-use Rattle.jobfile.specs.declared.Job.{Job}
+use Rattle.jobfile.specs.declared.job.Job.{Job}
 use Rattle.jobfile.specs.declared.event.Event.{Event}
 use Rattle.jobfile.specs.declared.event.Move.{Move}
 use Rattle.jobfile.specs.Events.{access_of}

@@ -31,8 +31,7 @@ pub fn question(file: &[u8], i: usize, j: usize) -> Result<Related, Refusal>
     ensures { QuestionGives file.now i j result }
 {
     let job = check(file)?;
-    let end = job.start + 4 * job.events;
-    asked(&file[job.start..end], job.events, i, j)
+    asked(job.part(file), job.events, i, j)
 }
 
 // The question about events i and j of an accepted file's events, of which there are `count`.

@@ -1,8 +1,6 @@
 -- `relation::question` meets its contract: the check's answer picks the case, and an accepted file's events can be walked.
 -- Assumes nothing.
-use Prim.Native.Nat.{◌*◌}
 use mathlib.Core.Path.{sym, ◌∙◌}
-use native.Mathlib.Nat.{add-sub_cancel_left}
 use Rattle.std.proofs.lemmas.Result.{err_from_is_err_and}
 use Rattle.relation.proofs.Files.{question_unread, question_asked, stretch_file}
 use Rattle.relation.proofs.Gives.{question_gives}
@@ -15,11 +13,9 @@ returns-in_err-job c =
 
 pub asked-requires : goal.asked-requires
 asked-requires c =
-    let job = c.in_ok-job.job in
-    rw (add-sub_cancel_left job.start (4 * job.events)) (stretch_file c.args.file.now job (sym c.in_ok-job.ensures.answer))
+    rw c.part.ensures.bytes (stretch_file c.args.file.now c.in_ok-job.job (sym c.in_ok-job.ensures.answer))
 
 pub returns : goal.returns
 returns c =
-    let job = c.in_ok-job.job in
     question_gives _ _ _ _
-    ((rw (add-sub_cancel_left job.start (4 * job.events)) at c.asked.ensures) ∙ sym (question_asked _ job (sym c.in_ok-job.ensures.answer) _ _))
+    ((rw c.part.ensures.bytes at c.asked.ensures) ∙ sym (question_asked _ c.in_ok-job.job (sym c.in_ok-job.ensures.answer) _ _))
