@@ -18,13 +18,13 @@ move_of (Read r) = Stays
 move_of (Write r) = Stays
 
 -- an access of a kind to a record
-abbrev pub to : Kind → ℕ → Option Access
-to kind r = Some (record { kind = kind; «record» = r })
+abbrev pub access_to : Kind → ℕ → Option Access
+access_to kind r = Some (record { kind = kind; «record» = r })
 
 -- "two carry a record"
 abbrev pub access_of : Event → Option Access
 access_of Spawn = None
 access_of End = None
 access_of Sync = None
-access_of (Read r) = to Reads r
-access_of (Write r) = to Writes r
+access_of (Read r) = access_to Reads r
+access_of (Write r) = access_to Writes r

@@ -10,7 +10,7 @@ use lib.ListN.{length, get_or}
 use borrow.Author.Tests.{le-ltb}
 use Rattle.jobfile.specs.File.{check_of, record_count}
 use Rattle.jobfile.specs.Accepted.{RecordBelow}
-use Rattle.jobfile.specs.declared.event.Access.TheVariants.{To}
+use Rattle.jobfile.specs.Events.{access_to}
 use Rattle.jobfile.proofs.Checking.{accepted_part}
 use Rattle.relation.specs.Parallel.{Rooted}
 use Rattle.races.specs.Race.{Race}
@@ -59,7 +59,7 @@ module _ (file : List ℕ) (k : ℕ) (B₀ : Buffers) (L₀ : Lists) (T : Listab
   -- a race's record is below the count
   number_below : (m n : ℕ) → n < k → (P : Race (events_in file) m n) → P.number < count
   number_below m n l P =
-      let b : RecordBelow count (To P.second_kind P.number) =
+      let b : RecordBelow count (access_to P.second_kind P.number) =
       rw P.second at ((accepted_part file T.judgeable.job T.judgeable.accepted).record_below n (omega (arith, T.judgeable.within))) in b
 
   module _ (r : Answer) (B : Buffers) (L : Lists) (F : RecordsGives file k B₀ L₀ r B L) where

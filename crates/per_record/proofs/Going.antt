@@ -14,7 +14,7 @@ use Rattle.jobfile.specs.Accepted.{RecordBelow}
 use Rattle.jobfile.specs.Events.{access_of}
 use Rattle.jobfile.specs.Trace.{event_at, moves}
 use Rattle.jobfile.specs.declared.event.Kind.{Kind}
-use Rattle.jobfile.specs.declared.event.Access.TheVariants.{To}
+use Rattle.jobfile.specs.Events.{access_to}
 use Rattle.jobfile.proofs.Accesses.{access_stays}
 use Rattle.strands.specs.Memory.{OpenTasks}
 use Rattle.strands.specs.declared.Now.{Now}
@@ -41,7 +41,7 @@ less m n h d = go (dec_le (suc m) n)
 
 -- an access leaves the open tasks
 module _ (part : List ℕ) (from : ℕ) (T T' : OpenTasks) where
-  tasks_past : (at : ℕ) → from ≤ at → (kind : Kind) (r : ℕ) → access_of (event_at part at) ≡ To kind r
+  tasks_past : (at : ℕ) → from ≤ at → (kind : Kind) (r : ℕ) → access_of (event_at part at) ≡ access_to kind r
       → T' ≡ tasks_over (moves (event_at part)) from (at - from) T → T' ≡ tasks_over (moves (event_at part)) from (suc at - from) T
   unfolding tasks_over
   tasks_past at h kind r e f =
@@ -52,14 +52,14 @@ module _ (part : List ℕ) (from : ℕ) (T T' : OpenTasks) where
 -- the record of every event of a run has its mark
 pub has_mark : {part : List ℕ} {records k : ℕ} → Run part records k → (m : ℕ) → m < k → HasMark part m
 has_mark {records = records} R m l kind r e =
-    let b : RecordBelow records (To kind r) = rw e at (R.accepted.record_below m (omega (arith, R.within))) in
+    let b : RecordBelow records (access_to kind r) = rw e at (R.accepted.record_below m (omega (arith, R.within))) in
     omega (arith, b, R.records_within)
 
 -- before event i of a run
 module _ {part : List ℕ} {records k : ℕ} {B₀ B : Buffers} {T : OpenTasks} {M : List ℕ} {now : Now} {i : ℕ} (G : Going part records k B₀ B T M now i) where
   -- event i is an access of a frozen record
   frozen_raced : i < k → frozen_at part M i ≡ true
-      → (kind : Kind) × (r j : ℕ) × (access_of (event_at part i) ≡ To kind r) × (second_of rules (event_trace (event_at part)) r i ≡ some j)
+      → (kind : Kind) × (r j : ℕ) × (access_of (event_at part i) ≡ access_to kind r) × (second_of rules (event_trace (event_at part)) r i ≡ some j)
   frozen_raced l t =
       let w = marked_access M (access_of (event_at part i)) t in
       let s = marked_raced G.marked (omega (arith, G.run.within, G.run.small)) w.1 (has_mark G.run i l w.0 w.1 w.2) w.3 in

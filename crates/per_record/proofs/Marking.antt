@@ -14,7 +14,8 @@ use Rattle.jobfile.specs.declared.event.Event.{Event}
 use Rattle.jobfile.specs.declared.event.Kind.{Kind}
 use Rattle.jobfile.specs.declared.event.Kind.TheVariants.{Write, Read}
 use Rattle.jobfile.specs.declared.event.Access.{Access}
-use Rattle.jobfile.specs.declared.event.Access.TheVariants.{None, To}
+use Rattle.std.specs.Prelude.{Option, None, Some}
+use Rattle.jobfile.specs.Events.{access_to}
 use Rattle.races.specs.Mark.{rank}
 use Rattle.per_record.specs.Marks.{mark_of, kind_in, second_in, of_marked, frozen_at}
 
@@ -50,12 +51,12 @@ module _ (second : ℕ) (small : second < 1000000) where
   mark_fits Read = omega arith
 
 -- what is read of an event says whether it is an access of a frozen record
-module _ (part : List ℕ) (i : ℕ) (e : Event) (same : e ≡ event_at part i) (a : Access) (its : a ≡ access_of e) where
+module _ (part : List ℕ) (i : ℕ) (e : Event) (same : e ≡ event_at part i) (a : Option Access) (its : a ≡ access_of e) where
   pub its_access : (b : Access) → a ≡ b → access_of (event_at part i) ≡ b
   its_access b is = sym (its ∙ ap access_of same) ∙ is
 
-  pub frozen_to : (M : List ℕ) (kind : Kind) (r : ℕ) → a ≡ To kind r → not (eqb (get_or M r 0) 4294967295) ≡ frozen_at part M i
-  frozen_to M kind r to = ap (of_marked M) (sym (its_access (To kind r) to))
+  pub frozen_to : (M : List ℕ) (kind : Kind) (r : ℕ) → a ≡ access_to kind r → not (eqb (get_or M r 0) 4294967295) ≡ frozen_at part M i
+  frozen_to M kind r to = ap (of_marked M) (sym (its_access (access_to kind r) to))
 
   pub frozen_none : (M : List ℕ) → a ≡ None → false ≡ frozen_at part M i
   frozen_none M to = ap (of_marked M) (sym (its_access None to))

@@ -9,7 +9,8 @@ use Rattle.jobfile.specs.declared.event.Event.{Event}
 use Rattle.jobfile.specs.declared.event.Kind.{Kind}
 use Rattle.jobfile.specs.declared.event.Kind.TheVariants.{Write, Read}
 use Rattle.jobfile.specs.declared.event.Access.{Access}
-use Rattle.jobfile.specs.declared.event.Access.TheVariants.{None, To}
+use Rattle.std.specs.Prelude.{Option, None, Some}
+use Rattle.jobfile.specs.Events.{access_to}
 use Rattle.races.specs.Places.{found_class}
 use Rattle.races.specs.Records.{Pair, no_pair, pair, second_of}
 use Rattle.races.specs.Mark.{rank, rules, event_trace}
@@ -37,9 +38,9 @@ module _ (ev : ℕ → Event) where
     pub marks : (r : ℕ) → r < 4096 → get_or M r 0 ≡ mark_at r (second_of rules (event_trace ev) r i)
 
 -- an access of a record that is marked
-abbrev pub of_marked : List ℕ → Access → Bool
+abbrev pub of_marked : List ℕ → Option Access → Bool
 of_marked M None = false
-of_marked M (To kind r) = not (eqb (get_or M r 0) 4294967295)
+of_marked M (Some a) = not (eqb (get_or M a.«record» 0) 4294967295)
 
 -- event i is one
 abbrev pub frozen_at : List ℕ → List ℕ → ℕ → Bool
@@ -47,7 +48,7 @@ frozen_at part M i = of_marked M (access_of (event_at part i))
 
 -- the record of event i, if it has one, has an entry among the marks
 abbrev pub HasMark : List ℕ → ℕ → Type 0
-HasMark part i = (kind : Kind) (r : ℕ) → access_of (event_at part i) ≡ To kind r → r < 4096
+HasMark part i = (kind : Kind) (r : ℕ) → access_of (event_at part i) ≡ access_to kind r → r < 4096
 
 -- the end of a stretch of 64 events, or k if that is nearer
 unfoldable pub stretch_end : ℕ → ℕ → ℕ

@@ -11,7 +11,8 @@ use Rattle.jobfile.specs.declared.event.Event.{Event}
 use Rattle.jobfile.specs.declared.event.Kind.{Kind}
 use Rattle.jobfile.specs.declared.event.Kind.TheVariants.{Write, Read}
 use Rattle.jobfile.specs.declared.event.Access.{Access}
-use Rattle.jobfile.specs.declared.event.Access.TheVariants.{None, To}
+use Rattle.std.specs.Prelude.{Option, None, Some}
+use Rattle.jobfile.specs.Events.{access_to}
 use Rattle.relation.specs.Parallel.{Parallel, Rooted}
 use Rattle.relation.specs.Walk.{Walker}
 use Rattle.relation.proofs.Agree.{walk_sound, walk_complete}
@@ -31,9 +32,9 @@ is_access other = false
 is_access (access r c) = true
 
 -- which access a class of accesses is
-pub access_of_lem : (a : Access) (r c : ℕ) → act_of a ≡ access r c → (kind : Kind) × (a ≡ To kind r) × (rank kind ≡ c)
+pub access_of_lem : (a : Option Access) (r c : ℕ) → act_of a ≡ access r c → (kind : Kind) × (a ≡ access_to kind r) × (rank kind ≡ c)
 access_of_lem None r c e = absurd (false≢true (ap is_access e))
-access_of_lem (To kind q) r c e = (kind, let z : q ≡ r = ap record_of e in rw z, ap class_of e)
+access_of_lem (Some a) r c e = (a.kind, let z : a.«record» ≡ r = ap record_of e in rw z, ap class_of e)
 
 rank_below : (kind : Kind) → rank kind < 2
 rank_below Write = omega arith
@@ -68,13 +69,13 @@ module _ (ev : ℕ → Event) where
       (walk_complete (moves ev) i j r, walk_sound (moves ev) i j (omega arith) r)
 
   -- an access of a kind to a record, as the theory tests it
-  pub of_kind : (kind : Kind) (r n : ℕ) → access_of (ev n) ≡ To kind r → in_class rules (event_trace ev) r (rank kind) n ≡ true
+  pub of_kind : (kind : Kind) (r n : ℕ) → access_of (ev n) ≡ access_to kind r → in_class rules (event_trace ev) r (rank kind) n ≡ true
   of_kind kind r n e = rw e (of_is r (rank kind))
 
-  pub kind_of : (kind : Kind) (r n : ℕ) → in_class rules (event_trace ev) r (rank kind) n ≡ true → access_of (ev n) ≡ To kind r
+  pub kind_of : (kind : Kind) (r n : ℕ) → in_class rules (event_trace ev) r (rank kind) n ≡ true → access_of (ev n) ≡ access_to kind r
   kind_of kind r n t =
       let w = access_of_lem (access_of (ev n)) r (rank kind) (is_of_lem r (rank kind) (act_of (access_of (ev n))) t) in
-      w.1 ∙ ap (λ (k : Kind). To k r) (rank_only w.0 kind w.2)
+      w.1 ∙ ap (λ (k : Kind). access_to k r) (rank_only w.0 kind w.2)
 
-  pub not_kind : (kind : Kind) (r n : ℕ) → in_class rules (event_trace ev) r (rank kind) n ≡ false → access_of (ev n) ≢ To kind r
+  pub not_kind : (kind : Kind) (r n : ℕ) → in_class rules (event_trace ev) r (rank kind) n ≡ false → access_of (ev n) ≢ access_to kind r
   not_kind kind r n f e = false≢true (sym f ∙ of_kind kind r n e)

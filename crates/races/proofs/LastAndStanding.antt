@@ -11,7 +11,7 @@ use Rattle.jobfile.specs.Events.{access_of}
 use Rattle.jobfile.specs.Trace.{moves}
 use Rattle.jobfile.specs.declared.event.Event.{Event}
 use Rattle.jobfile.specs.declared.event.Kind.TheVariants.{Write, Read}
-use Rattle.jobfile.specs.declared.event.Access.TheVariants.{To}
+use Rattle.jobfile.specs.Events.{access_to}
 use Rattle.relation.specs.Parallel.{Before, Rooted}
 use Rattle.relation.specs.Walk.{par}
 use Rattle.relation.proofs.Agree.{walk_sound}
@@ -78,7 +78,7 @@ module _ (ev : ℕ → Event) (r : ℕ) where
   no_last_write n = none_is (last_write ev r n) (LastWrite ev r n) (last_write_is n)
 
   -- a standing read is an earlier read
-  pub standing_read : {n s : ℕ} → Standing ev r n s → (s < n) × (access_of (ev s) ≡ To Read r)
+  pub standing_read : {n s : ℕ} → Standing ev r n s → (s < n) × (access_of (ev s) ≡ access_to Read r)
   standing_read (first_read e f) = (omega arith, e)
   standing_read (takes_place S x) = (omega arith, x.0)
   standing_read (keeps_place S f) = let w = standing_read S in (omega arith, w.1)
@@ -88,10 +88,10 @@ module _ (ev : ℕ → Event) (r : ℕ) where
 
   -- what the place of the reads says just before event n
   abbrev Stands : ℕ → Option ℕ → Type 0
-  Stands n none = (m : ℕ) → m < n → access_of (ev m) ≢ To Read r
+  Stands n none = (m : ℕ) → m < n → access_of (ev m) ≢ access_to Read r
   Stands n (some s) = Standing ev r n s
 
-  stands_read : (n s : ℕ) (b : Bool) → Rooted (moves ev) n → par (moves ev) s n ≡ b → access_of (ev n) ≡ To Read r → Standing ev r n s
+  stands_read : (n s : ℕ) (b : Bool) → Rooted (moves ev) n → par (moves ev) s n ≡ b → access_of (ev n) ≡ access_to Read r → Standing ev r n s
       → Stands (suc n) (cond b (some s) (some n))
   stands_read n s true root t e S =
       keeps_place S (λ x. x.1.1 (walk_sound (moves ev) s n (omega (arith, (standing_read S).0)) root t))
@@ -101,7 +101,7 @@ module _ (ev : ℕ → Event) (r : ℕ) where
       → Stands (suc n) (cond b (stood false (par_to (event_trace ev) n) n o) o)
   stands_next n true none root t S = first_read (kind_of ev Read r n t) S
   stands_next n true (some s) root t S = stands_read n s (par (moves ev) s n) root refl (kind_of ev Read r n t) S
-  stands_next n false none root f S = below (λ m. access_of (ev m) ≢ To Read r) n S (not_kind ev Read r n f)
+  stands_next n false none root f S = below (λ m. access_of (ev m) ≢ access_to Read r) n S (not_kind ev Read r n f)
   stands_next n false (some s) root f S = keeps_place S (λ x. not_kind ev Read r n f x.0)
 
   stands : (n : ℕ) → Rooted (moves ev) n → Stands n (standing ev r n)
@@ -112,17 +112,17 @@ module _ (ev : ℕ → Event) (r : ℕ) where
       stands_next n (reads n) (standing ev r n) before refl (stands n before)
 
   -- nothing stands just where the record has not been read
-  pub unread : (n : ℕ) → Rooted (moves ev) n → (standing ev r n ≡ none) ↔ ((m : ℕ) → m < n → access_of (ev m) ≢ To Read r)
+  pub unread : (n : ℕ) → Rooted (moves ev) n → (standing ev r n ≡ none) ↔ ((m : ℕ) → m < n → access_of (ev m) ≢ access_to Read r)
   unread n root = (λ e. rw e at (stands n root), from (standing ev r n) (stands n root))
     where
-      from : (o : Option ℕ) → Stands n o → ((m : ℕ) → m < n → access_of (ev m) ≢ To Read r) → o ≡ none
+      from : (o : Option ℕ) → Stands n o → ((m : ℕ) → m < n → access_of (ev m) ≢ access_to Read r) → o ≡ none
       from none S f = refl
       from (some s) S f = let w = standing_read S in absurd (f s w.0 w.1)
 
-  read_next : (n : ℕ) → access_of (ev n) ≡ To Read r → standing ev r (suc n) ≡ stood false (par_to (event_trace ev) n) n (standing ev r n)
+  read_next : (n : ℕ) → access_of (ev n) ≡ access_to Read r → standing ev r (suc n) ≡ stood false (par_to (event_trace ev) n) n (standing ev r n)
   read_next n e = held_next rules (event_trace ev) r 1 n ∙ rw (of_kind ev Read r n e)
 
-  keeps : (n s : ℕ) (b : Bool) → Rooted (moves ev) n → reads n ≡ b → s < n → ¬ ((access_of (ev n) ≡ To Read r) × Before (moves ev) s n)
+  keeps : (n s : ℕ) (b : Bool) → Rooted (moves ev) n → reads n ≡ b → s < n → ¬ ((access_of (ev n) ≡ access_to Read r) × Before (moves ev) s n)
       → standing ev r n ≡ some s → standing ev r (suc n) ≡ some s
   keeps n s false root f sn x e = held_off rules (event_trace ev) r 1 n f ∙ e
   keeps n s true root t sn x e =

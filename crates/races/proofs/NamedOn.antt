@@ -11,7 +11,8 @@ use Rattle.jobfile.specs.Trace.{moves}
 use Rattle.jobfile.specs.declared.event.Event.{Event}
 use Rattle.jobfile.specs.declared.event.Kind.{Kind}
 use Rattle.jobfile.specs.declared.event.Kind.TheVariants.{Read}
-use Rattle.jobfile.specs.declared.event.Access.TheVariants.{To}
+use Rattle.jobfile.specs.Events.{access_to}
+use Rattle.jobfile.proofs.Accesses.{same_access}
 use Rattle.relation.specs.Parallel.{Parallel, Rooted}
 use Rattle.relation.proofs.Laws.{rooted_less}
 use Rattle.races.specs.Trace.{class_of}
@@ -59,16 +60,15 @@ module _ (ev : ℕ → Event) where
   RaceFreeOn r j = (m n : ℕ) → n < j → (P : Race ev m n) → P.number ≢ r
 
   -- an access of a race on record r is one to r
-  to_record : (n q r : ℕ) (kind : Kind) → access_of (ev n) ≡ To kind q → q ≡ r → access_of (ev n) ≡ To kind r
-  to_record n q r kind a on = a ∙ ap (To kind) on
+  to_record : (n q r : ℕ) (kind : Kind) → access_of (ev n) ≡ access_to kind q → q ≡ r → access_of (ev n) ≡ access_to kind r
+  to_record n q r kind a on = a ∙ ap (access_to kind) on
 
   -- two records never share a second
   pub second_one_record : (k i j r m q : ℕ) → NamedOn ev k i j r → NamedOn ev k m j q → r ≡ q
   second_one_record k i j r m q N M =
       let x = to_record j N.is_race.number r N.is_race.second_kind N.is_race.second N.on_its_record in
       let y = to_record j M.is_race.number q M.is_race.second_kind M.is_race.second M.on_its_record in
-      let e : To N.is_race.second_kind r ≡ To M.is_race.second_kind q = sym x ∙ y in
-      cc
+      (same_access N.is_race.second_kind M.is_race.second_kind r q (sym x ∙ y)).1
 
   module _ (k : ℕ) (root : Rooted (moves ev) k) where
     -- the rule of the first
@@ -82,8 +82,7 @@ module _ (ev : ℕ → Event) where
       smallest = λ d w l c e Q. absurd (omega arith);
     }
     first_to i j r P on jk (inr x) =
-        let same : To P.first_kind P.number ≡ To Read r = sym P.first ∙ (standing_read ev r x.1).1 in
-        let reads : P.first_kind ≡ Read = cc in
+        let reads = (same_access P.first_kind Read P.number r (sym P.first ∙ (standing_read ev r x.1).1)).0 in
         let clash : conflict Read P.second_kind ≡ true = rw reads at P.clash in
         let class : class_of (act_of (access_of (ev j))) ≡ rank P.second_kind = ap (λ a. class_of (act_of a)) P.second in
         record {
@@ -163,7 +162,7 @@ module _ (ev : ℕ → Event) where
 
     -- a computed pair is two events of the first k, the earlier one first, both accesses to the record
     pub second_below : (i j r : ℕ) → pair_of rules (event_trace ev) r k ≡ pair i j
-        → (i < j) × (j < k) × ((a : Kind) × (access_of (ev i) ≡ To a r)) × ((b : Kind) × (access_of (ev j) ≡ To b r))
+        → (i < j) × (j < k) × ((a : Kind) × (access_of (ev i) ≡ access_to a r)) × ((b : Kind) × (access_of (ev j) ≡ access_to b r))
     second_below i j r e =
         let N = (pair_named i j r).0 e in
         let P = N.is_race in (

@@ -7,7 +7,7 @@ use Rattle.jobfile.specs.declared.event.Event.{Event}
 use Rattle.jobfile.specs.declared.event.Kind.{Kind}
 use Rattle.jobfile.specs.declared.event.Kind.TheVariants.{Write, Read}
 use Rattle.jobfile.specs.declared.event.Access.{Access}
-use Rattle.jobfile.specs.declared.event.Access.TheVariants.{None, To}
+use Rattle.std.specs.Prelude.{Option, None, Some}
 use Rattle.relation.specs.Strand.{strand_at}
 use Rattle.relation.specs.Walk.{par}
 use Rattle.races.specs.Trace.{Act, other, access, Trace}
@@ -19,9 +19,9 @@ abbrev pub rank : Kind → ℕ
 rank Write = 0
 rank Read = 1
 
-abbrev pub act_of : Access → Act
+abbrev pub act_of : Option Access → Act
 act_of None = other
-act_of (To kind r) = access r (rank kind)
+act_of (Some a) = access a.«record» (rank a.kind)
 
 abbrev pub is_write : ℕ → Bool
 is_write c = eqb c 0

@@ -4,7 +4,7 @@ use Rattle.jobfile.specs.Events.{access_of}
 use Rattle.jobfile.specs.Trace.{moves}
 use Rattle.jobfile.specs.declared.event.Event.{Event}
 use Rattle.jobfile.specs.declared.event.Kind.TheVariants.{Write, Read}
-use Rattle.jobfile.specs.declared.event.Access.TheVariants.{To}
+use Rattle.jobfile.specs.Events.{access_to}
 use Rattle.relation.specs.Parallel.{Parallel, Before}
 use Rattle.races.specs.Race.{Race}
 
@@ -12,16 +12,16 @@ module _ (ev : ℕ → Event) where
   -- event w is "the last earlier write of the record" r, just before event n
   pub record LastWrite (r n w : ℕ) : Type 0 where
     pub earlier : w < n
-    pub write : access_of (ev w) ≡ To Write r
-    pub last : (m : ℕ) → w < m → m < n → access_of (ev m) ≢ To Write r
+    pub write : access_of (ev w) ≡ access_to Write r
+    pub last : (m : ℕ) → w < m → m < n → access_of (ev m) ≢ access_to Write r
 
   -- Standing r n s: event s is "the standing read" of record r, just before event n
   pub data Standing (r : ℕ) : ℕ → ℕ → Type 0 where
     -- "The first read of a record stands;"
-    first_read : {n : ℕ} → access_of (ev n) ≡ To Read r → ((m : ℕ) → m < n → access_of (ev m) ≢ To Read r) → Standing r (suc n) n
+    first_read : {n : ℕ} → access_of (ev n) ≡ access_to Read r → ((m : ℕ) → m < n → access_of (ev m) ≢ access_to Read r) → Standing r (suc n) n
     -- "a later read takes its place exactly if the standing one is before it."
-    takes_place : {n s : ℕ} → Standing r n s → (access_of (ev n) ≡ To Read r) × Before (moves ev) s n → Standing r (suc n) n
-    keeps_place : {n s : ℕ} → Standing r n s → ¬ ((access_of (ev n) ≡ To Read r) × Before (moves ev) s n) → Standing r (suc n) s
+    takes_place : {n s : ℕ} → Standing r n s → (access_of (ev n) ≡ access_to Read r) × Before (moves ev) s n → Standing r (suc n) n
+    keeps_place : {n s : ℕ} → Standing r n s → ¬ ((access_of (ev n) ≡ access_to Read r) × Before (moves ev) s n) → Standing r (suc n) s
 
   -- "The first is the last earlier write of the record if that is parallel to the second; otherwise the standing read.": event i is
   -- the first that goes with the second j on record r

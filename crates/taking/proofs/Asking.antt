@@ -13,7 +13,7 @@ use Rattle.jobfile.specs.Accepted.{RecordBelow}
 use Rattle.jobfile.specs.Events.{access_of}
 use Rattle.jobfile.specs.Trace.{event_at, moves}
 use Rattle.jobfile.specs.declared.event.Kind.{Kind}
-use Rattle.jobfile.specs.declared.event.Access.TheVariants.{To}
+use Rattle.jobfile.specs.Events.{access_to}
 use Rattle.relation.specs.Parallel.{Rooted}
 use Rattle.relation.specs.Strand.{strand_at}
 use Rattle.relation.proofs.Strand.{begun_some, begun_rises}
@@ -47,8 +47,8 @@ module _ {part : List ℕ} {records k : ℕ} {B₀ B : Buffers} {T : OpenTasks} 
       omega (arith, begun_some mv m, begun_rises mv m i l, R.accepted.few i (omega (arith, R.within)))
 
   -- the record of an access is below the count
-  pub on_its_record : (kind : Kind) (r : ℕ) → access_of (event_at part i) ≡ To kind r → r < records
-  on_its_record kind r e = let b : RecordBelow records (To kind r) = rw e at (R.accepted.record_below i (omega (arith, R.within))) in b
+  pub on_its_record : (kind : Kind) (r : ℕ) → access_of (event_at part i) ≡ access_to kind r → r < records
+  on_its_record kind r e = let b : RecordBelow records (access_to kind r) = rw e at (R.accepted.record_below i (omega (arith, R.within))) in b
 
   -- the current strand has a label
   pub current_labelled : now.strands - 1 < 4096
@@ -81,7 +81,7 @@ module _ {part : List ℕ} {records k : ℕ} {B₀ B : Buffers} {T : OpenTasks} 
   asked_both r h unraced wrote stood w s (suc (suc c)) l = absurd (omega arith)
 
   -- so the next event, if it is an access to a record that has not raced, may be judged
-  pub arriving : (kind : Kind) (r : ℕ) → access_of (event_at part i) ≡ To kind r → second_of rules (event_trace (event_at part)) r i ≡ none
+  pub arriving : (kind : Kind) (r : ℕ) → access_of (event_at part i) ≡ access_to kind r → second_of rules (event_trace (event_at part)) r i ≡ none
       → (wrote stood : Bool) → wrote ≡ held_above B.labels B.places r (now.strands - 1) → stood ≡ held_above B.labels B.places (8192 + r) (now.strands - 1)
       → Arriving rules (event_trace (event_at part)) layout i records B₀.places B.places r (rank kind) i (now.strands - 1) (two wrote stood)
   arriving kind r e unraced wrote stood w s = record {

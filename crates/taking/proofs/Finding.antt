@@ -9,7 +9,7 @@ use Rattle.jobfile.specs.Events.{access_of}
 use Rattle.jobfile.specs.Trace.{event_at, moves}
 use Rattle.jobfile.specs.declared.event.Kind.{Kind}
 use Rattle.jobfile.specs.declared.event.Kind.TheVariants.{Write, Read}
-use Rattle.jobfile.specs.declared.event.Access.TheVariants.{To}
+use Rattle.jobfile.specs.Events.{access_to}
 use Rattle.relation.proofs.Strand.{begun_some}
 use Rattle.strands.specs.declared.Now.{Now}
 use Rattle.races.specs.Trace.{record_of}
@@ -34,7 +34,7 @@ module _ {part : List ℕ} {i : ℕ} {labels places : List ℕ} {now : Now} (A :
     its_record = omega (arith, its_number, on_its_record A.run A.next A.midway A.races.kind A.races.number A.races.is_an_access, A.run.records_within)
 
     -- the access, and that its record has not raced
-    accesses : access_of (event_at part i) ≡ To A.races.kind r
+    accesses : access_of (event_at part i) ≡ access_to A.races.kind r
     accesses = rw its_number A.races.is_an_access
 
     pub found_written : true ≡ held_above labels places r (now.strands - 1) → FirstFound part i (record { kind = Write; «record» = r })
@@ -55,7 +55,7 @@ module _ {part : List ℕ} {i : ℕ} {labels places : List ℕ} {now : Now} (A :
             let first : first_of rules (event_trace (event_at part)) r i ≡ some A.races.first = rw its_number A.races.names in
             false≢true (sym (ap given e) ∙ ap given first)
 
-        by : (kind : Kind) → access_of (event_at part i) ≡ To kind r → (stood : Bool) → stood ≡ held_above labels places (8192 + r) (now.strands - 1)
+        by : (kind : Kind) → access_of (event_at part i) ≡ access_to kind r → (stood : Bool) → stood ≡ held_above labels places (8192 + r) (now.strands - 1)
             → found_class rules (event_trace (event_at part)) r i ≡ some 1
         by Write e true s = read_class A.run A.next A.midway r unraced e w s
         by Write e false s = absurd (named (nothing_first A.run A.next A.midway r unraced Write false e w s (none_told 0)))

@@ -16,7 +16,8 @@ use Rattle.jobfile.specs.declared.event.Kind.{Kind}
 use Rattle.jobfile.specs.declared.event.Kind.TheVariants.{Write, Read}
 use Rattle.jobfile.specs.declared.event.Move.{Move}
 use Rattle.jobfile.specs.declared.event.Move.TheVariants.{Stays}
-use Rattle.jobfile.specs.declared.event.Access.TheVariants.{None, To}
+use Rattle.std.specs.Prelude.{Option, None, Some}
+use Rattle.jobfile.specs.Events.{access_to}
 use Rattle.jobfile.proofs.Accesses.{access_stays}
 use Rattle.relation.proofs.Strand.{begun_some}
 use Rattle.strands.specs.Memory.{OpenTasks}
@@ -60,7 +61,7 @@ taken {i = i} R h = record {
 module _ {part : List ℕ} {records k : ℕ} {B₀ B : Buffers} {T : OpenTasks} {now : Now} {i : ℕ}
     (R : Run part records k) (behind : i < k) (S : Midway part records B₀ B T now i) where
   -- an access does not move: the state of the strands is that behind it
-  access_midway : (kind : Kind) (r : ℕ) → access_of (event_at part i) ≡ To kind r → (P' : List ℕ)
+  access_midway : (kind : Kind) (r : ℕ) → access_of (event_at part i) ≡ access_to kind r → (P' : List ℕ)
       → Shown rules (event_trace (event_at part)) layout (suc i) records B₀.places P' → Midway part records B₀ (placed B P') T now (suc i)
   access_midway kind r e P' shown = record {
     reached = (nothing_advances (orders_in B) T now Stays T (refl, refl, refl, refl)).behind (moves (event_at part)) i (orders_in B₀) S.reached
@@ -70,7 +71,7 @@ module _ {part : List ℕ} {records k : ℕ} {B₀ B : Buffers} {T : OpenTasks} 
   }
 
   -- an access of a record that has raced is left alone
-  pub frozen_midway : (kind : Kind) (r j : ℕ) → access_of (event_at part i) ≡ To kind r → second_of rules (event_trace (event_at part)) r i ≡ some j
+  pub frozen_midway : (kind : Kind) (r j : ℕ) → access_of (event_at part i) ≡ access_to kind r → second_of rules (event_trace (event_at part)) r i ≡ some j
       → Midway part records B₀ B T now (suc i)
   frozen_midway kind r j e raced =
       let ev = event_at part in
@@ -101,18 +102,18 @@ module _ (part : List ℕ) (i : ℕ) where
   trace = event_trace (event_at part)
 
   -- an access of record r: that of r, and those of all others
-  seconds : (kind : Kind) (r : ℕ) → access_of (event_at part i) ≡ To kind r → second_of rules trace r (suc i) ≡ second_of rules trace r i → Still part i (suc i)
+  seconds : (kind : Kind) (r : ℕ) → access_of (event_at part i) ≡ access_to kind r → second_of rules trace r (suc i) ≡ second_of rules trace r i → Still part i (suc i)
   seconds kind r e own q = by (same_or_not q r)
     where
       by : (q ≡ r) ⊎ (q ≢ r) → second_of rules trace q (suc i) ≡ second_of rules trace q i
       by (inl z) = rw z own
       by (inr z) = second_elsewhere rules trace (lawful (event_at part)) (fit (event_at part)) i r (rank kind) (ap act_of e) q z
 
-  pub frozen_still : (kind : Kind) (r j : ℕ) → access_of (event_at part i) ≡ To kind r → second_of rules trace r i ≡ some j → Still part i (suc i)
+  pub frozen_still : (kind : Kind) (r j : ℕ) → access_of (event_at part i) ≡ access_to kind r → second_of rules trace r i ≡ some j → Still part i (suc i)
   frozen_still kind r j e raced =
       seconds kind r e (second_frozen rules trace (lawful (event_at part)) (fit (event_at part)) i r (rank kind) (ap act_of e) j raced ∙ sym raced)
 
-  clean_still : (kind : Kind) (r : ℕ) → access_of (event_at part i) ≡ To kind r → second_of rules trace r i ≡ none → first_of rules trace r i ≡ none
+  clean_still : (kind : Kind) (r : ℕ) → access_of (event_at part i) ≡ access_to kind r → second_of rules trace r i ≡ none → first_of rules trace r i ≡ none
       → Still part i (suc i)
   clean_still kind r e unraced f =
       seconds kind r e (second_clean rules trace (lawful (event_at part)) (fit (event_at part)) i r (rank kind) (ap act_of e) unraced f ∙ sym unraced)
@@ -137,32 +138,32 @@ module _ {part : List ℕ} {records k : ℕ} {B₀ B : Buffers} {T : OpenTasks} 
   abbrev told : ℕ → Bool
   told at = held_above B.labels B.places at (now.strands - 1)
 
-  facing : (kind : Kind) → access_of (event_at part i) ≡ To kind r → (wrote stood : Bool) → wrote ≡ told r → stood ≡ told (8192 + r)
+  facing : (kind : Kind) → access_of (event_at part i) ≡ access_to kind r → (wrote stood : Bool) → wrote ≡ told r → stood ≡ told (8192 + r)
       → Facing rules (event_trace (event_at part)) i r (rank kind) (two wrote stood)
   facing kind e wrote stood w s = (arriving R next S kind r e unraced wrote stood w s).facing
 
   -- the last write is parallel: it is named, whatever stands
-  pub written_class : (kind : Kind) → access_of (event_at part i) ≡ To kind r → true ≡ told r
+  pub written_class : (kind : Kind) → access_of (event_at part i) ≡ access_to kind r → true ≡ told r
       → found_class rules (event_trace (event_at part)) r i ≡ some 0
   written_class kind e w = names_class (facing kind e true (told (8192 + r)) w refl) 0 (last_write_named (rank kind) (told (8192 + r)))
 
-  written_races : (kind : Kind) → access_of (event_at part i) ≡ To kind r → true ≡ told r → Races part i
+  written_races : (kind : Kind) → access_of (event_at part i) ≡ access_to kind r → true ≡ told r → Races part i
   written_races kind e w =
       let f = names_first (facing kind e true (told (8192 + r)) w refl) 0 (last_write_named (rank kind) (told (8192 + r))) in
       record { kind = kind; number = r; is_an_access = e; unraced = unraced; first = f.0; names = f.2 }
 
   -- only the standing read is, and this is a write
-  pub read_class : access_of (event_at part i) ≡ To Write r → false ≡ told r → true ≡ told (8192 + r)
+  pub read_class : access_of (event_at part i) ≡ access_to Write r → false ≡ told r → true ≡ told (8192 + r)
       → found_class rules (event_trace (event_at part)) r i ≡ some 1
   read_class e w s = names_class (facing Write e false true w s) 1 standing_read_named
 
-  read_races : access_of (event_at part i) ≡ To Write r → false ≡ told r → true ≡ told (8192 + r) → Races part i
+  read_races : access_of (event_at part i) ≡ access_to Write r → false ≡ told r → true ≡ told (8192 + r) → Races part i
   read_races e w s =
       let f = names_first (facing Write e false true w s) 1 standing_read_named in
       record { kind = Write; number = r; is_an_access = e; unraced = unraced; first = f.0; names = f.2 }
 
   -- neither names anything
-  pub nothing_first : (kind : Kind) (stood : Bool) → access_of (event_at part i) ≡ To kind r → false ≡ told r → stood ≡ told (8192 + r)
+  pub nothing_first : (kind : Kind) (stood : Bool) → access_of (event_at part i) ≡ access_to kind r → false ≡ told r → stood ≡ told (8192 + r)
       → NamesNone rules (rank kind) (two false stood) → first_of rules (event_trace (event_at part)) r i ≡ none
   nothing_first kind stood e w s n = names_none (facing kind e false stood w s) n
 
@@ -180,8 +181,8 @@ module _ {part : List ℕ} {i : ℕ} {B : Buffers} {T : OpenTasks} {now : Now} (
   strand_below = current_labelled A.run A.next A.midway
 
   -- an access to record r
-  module _ (kind : Kind) (r : ℕ) (to : access_of e ≡ To kind r) where
-    to_record : access_of (event_at part i) ≡ To kind r
+  module _ (kind : Kind) (r : ℕ) (to : access_of e ≡ access_to kind r) where
+    to_record : access_of (event_at part i) ≡ access_to kind r
     to_record = rw (← same) to
 
     pub record_below : r < 4096
@@ -207,7 +208,7 @@ module _ {part : List ℕ} {i : ℕ} {B : Buffers} {T : OpenTasks} {now : Now} (
         tasks_are = tasks_stay;
       }
         where
-          by : (kind : Kind) → access_of (event_at part i) ≡ To kind r
+          by : (kind : Kind) → access_of (event_at part i) ≡ access_to kind r
               → true ≡ label_above B.labels (now.strands - 1) (clashing_of kind (held_or (get_or B.places (8192 + r + 4096) 0) (now.strands - 1)) (now.strands - 1))
               → {records k : ℕ} {B₀ : Buffers} → Run part records k → i < k → Midway part records B₀ B T now i
               → second_of rules (event_trace (event_at part)) r i ≡ none → Races part i
