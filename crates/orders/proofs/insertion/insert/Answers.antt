@@ -8,12 +8,12 @@ use Rattle.orders.proofs.insertion.insert.Goals as goal
 use Rattle.orders.proofs.insertion.insert.Goals.{After-above}
 
 -- the links since `link`
-linked_now : (c : After-above) → c.link.new.links ≡ linked c.args.links.now c.args.ln c.args.after c.args.new
+linked_now : (c : After-above) → c.link.new.links ≡ linked c.args.links.now c.args.base.links c.args.after c.args.new
 linked_now c = c.link.ensures
 
 -- `above` returned what the spec says of the strand after `after`
-high : (c : After-above) → c.above.result ≡ above c.args.labels.now c.args.lo (next_in c.args.links.now c.args.ln c.args.after)
-high c = rw (← c.wide.ensures) c.above.ensures
+high : (c : After-above) → c.above.result ≡ above c.args.labels.now c.args.base.labels (next_in c.args.links.now c.args.base.links c.args.after)
+high c = rw (← c.from.ensures) c.above.ensures
 
 pub overflow_sub-gap : goal.overflow_sub-gap
 overflow_sub-gap c =
