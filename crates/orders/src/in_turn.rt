@@ -51,6 +51,7 @@ pub fn append(
 }
 
 // Gives strand k the label of position k, from `at` on, and returns how many labels that changed.
+#[tactic(auto, using(crate::proofs::Respaced::differ_few))]
 fn respace(labels: &mut [u64], base: Base, at: usize, n: usize) -> usize
     requires { (at ≤ n) × (n ≤ 4096) × (base.labels + 4096 ≤ length labels.old) }
     ensures labels_after { labels.new ≡ relabel labels.old base.labels at (strands_from at (n - at)) }

@@ -85,6 +85,7 @@ fn above(labels: &[u64], base: Base, next: usize) -> u64
 }
 
 // Gives position k of the order of n strands the label 2^51 + k * 2^52, from the mark on, and returns how many labels that changed.
+#[tactic(auto, using(crate::proofs::Respaced::differ_few))]
 fn respace(labels: &mut [u64], links: &[u16], base: Base, mark: Mark, n: usize) -> usize
     requires { Walkable labels.old links.now base.labels base.links mark.from mark.at n }
     ensures labels_after { labels.new ≡ relabel labels.old base.labels mark.at (order_of links.now base.links (n - mark.at) mark.from) }

@@ -1,18 +1,12 @@
 -- `orders::in_turn::respace` meets its contract: at the loop's head what is done and what is left to do, the strands as they began from k
 -- on, make the whole (`Respacing`). Assumes nothing.
-use Prim.Native.Nat.{◌≤◌}
 use native.Mathlib.Omega.{arith}
-use Rattle.orders.proofs.Respaced.{turn_start, turn_more, turn_done, strands_cons, strands_none, strands_below, differ_few}
+use Rattle.orders.proofs.Respaced.{turn_start, turn_more, turn_done, strands_cons, strands_none, strands_below}
 use Rattle.orders.proofs.in_turn.respace.Goals as goal
 
 pub loop-k-init : goal.loop-k-init
 loop-k-init c =
     turn_start _ _ _ _ (strands_below 4096 _ _ (omega arith))
-
-pub overflow_add-changed : goal.overflow_add-changed
-overflow_add-changed c =
-    let few : c.put-changed.result ≤ 1 = rw c.put-changed.ensures.value (differ_few _ _) in
-    omega arith
 
 pub loop-k-preserved : goal.loop-k-preserved
 loop-k-preserved c =

@@ -1,8 +1,8 @@
 -- `orders::insertion::respace` meets its contract: at the loop's head what is done and what is left to do, the strands that the links give,
 -- make the whole (`Respacing`). Assumes nothing.
-use Prim.Native.Nat.{◌<◌, ◌≤◌}
+use Prim.Native.Nat.{◌<◌}
 use native.Mathlib.Omega.{arith}
-use Rattle.orders.proofs.Respaced.{turn_start, turn_more, turn_done, order_cons, order_none, differ_few}
+use Rattle.orders.proofs.Respaced.{turn_start, turn_more, turn_done, order_cons, order_none}
 use Rattle.orders.proofs.insertion.respace.Goals as goal
 use Rattle.orders.proofs.insertion.respace.Goals.{In-loop-k}
 
@@ -20,11 +20,6 @@ overflow_add-base c =
 pub put-changed-requires : goal.put-changed-requires
 put-changed-requires c =
     omega (arith, below (goal.at.put-changed-requires c).In-loop-k)
-
-pub overflow_add-changed : goal.overflow_add-changed
-overflow_add-changed c =
-    let few : c.put-changed.result ≤ 1 = rw c.put-changed.ensures.value (differ_few _ _) in
-    omega arith
 
 pub overflow_add-base-in-loop-k : goal.overflow_add-base-in-loop-k
 overflow_add-base-in-loop-k c =
