@@ -8,7 +8,6 @@ use limits::{BACK, STRANDS};
 // Puts strand `new` between `after` and `next`, the strand after it, or NO_LINK. `next` is a link, as the C interface has it in the buffer:
 // it is copied as it stands.
 // requires: the links are there, and `next` is what they say.
-#[tactic(auto, using(crate::proofs::Links::linked_some, crate::proofs::Links::linked_none))]
 pub fn link(links: &mut [u16], base: Base, after: usize, new: usize, next: u16)
     requires ln_in_bounds { base.links + 8192 ≤ length links.old }
     requires after_bound { (after < 4096) × (new < 4096) }
