@@ -14,6 +14,7 @@ use Rattle.strands.specs.TasksAfter.{tasks_after}
 use Rattle.strands.specs.declared.Now.{Now}
 use Rattle.strands.specs.declared.OpenTask.{OpenTask}
 
+-- the cell that the code keeps of an open task
 abbrev pub cell_of : OpenTask → Cell
 cell_of task = cell task.last task.join
 
