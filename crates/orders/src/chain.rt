@@ -9,7 +9,7 @@ use limits::{BACK, STRANDS};
 // it is copied as it stands.
 // requires: the links are there, and `next` is what they say.
 pub fn link(links: &mut [u16], base: Base, after: usize, new: usize, next: u16)
-    requires ln_in_bounds { base.links + 8192 ≤ length links.old }
+    requires links_in_bounds { base.links + 8192 ≤ length links.old }
     requires after_bound { (after < 4096) × (new < 4096) }
     requires next_value { next ≡ next_in links.old base.links after }
     ensures { links.new ≡ linked links.old base.links after new }

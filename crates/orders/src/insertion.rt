@@ -10,7 +10,8 @@ use crate::spacing::{SPACING, put, spaced};
 use limits::STRANDS;
 
 // Where the next respacing of an order starts: strand `from` stands at position `at`, and all that stand ahead of it have the labels of
-// their positions. Before the first respacing that is strand 0, at position 0; after one, with every strand ahead, `from` means nothing.
+// their positions. Before the first respacing that is strand 0, at position 0; after one, with every strand ahead, `from` means nothing. It
+// is a number all the same: `lowered` sets it before anything walks from it, so an Option would only add a test that never fails.
 #[derive(Clone, Copy)]
 pub struct Mark {
     pub from: usize,
@@ -85,7 +86,7 @@ fn above(labels: &[u64], base: Base, next: usize) -> u64
 }
 
 // Gives position k of the order of n strands the label 2^51 + k * 2^52, from the mark on, and returns how many labels that changed.
-#[tactic(auto, using(crate::proofs::Respaced::differ_few))]
+#[tactic(auto, using(crate::proofs::Respaced::differ_few, crate::proofs::Respaced::order_below))]
 fn respace(labels: &mut [u64], links: &[u16], base: Base, mark: Mark, n: usize) -> usize
     requires { Walkable labels.old links.now base.labels base.links mark.from mark.at n }
     ensures labels_after { labels.new ≡ relabel labels.old base.labels mark.at (order_of links.now base.links (n - mark.at) mark.from) }

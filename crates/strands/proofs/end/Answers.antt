@@ -1,11 +1,6 @@
 -- `strands::end` meets its contract: the event may come, so the task has a parent, and the store is that of `end_applies`. Assumes nothing.
-use mathlib.Core.Path.{refl}
 use Rattle.strands.proofs.Events.{end_applies}
 use Rattle.strands.proofs.end.Goals as goal
-
-pub overflow_sub-parent : goal.overflow_sub-parent
-overflow_sub-parent c =
-    c.requires.higher refl
 
 pub returns : goal.returns
 returns c =

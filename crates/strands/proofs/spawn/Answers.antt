@@ -1,11 +1,6 @@
 -- `strands::spawn` meets its contract: the event may come, so there is a place for the child, and the store is that of `spawn_applies`. Assumes nothing.
-use mathlib.Core.Path.{refl}
 use Rattle.strands.proofs.Events.{spawn_applies}
 use Rattle.strands.proofs.spawn.Goals as goal
-
-pub bounds-tasks-child : goal.bounds-tasks-child
-bounds-tasks-child c =
-    c.requires.deeper refl
 
 pub returns : goal.returns
 returns c =

@@ -1,37 +1,12 @@
 -- `orders::insertion::respace` meets its contract: at the loop's head what is done and what is left to do, the strands that the links give,
 -- make the whole (`Respacing`). Assumes nothing.
-use Prim.Native.Nat.{◌<◌}
-use native.Mathlib.Omega.{arith}
 use Rattle.orders.proofs.Respaced.{turn_start, turn_more, turn_done, order_cons, order_none}
 use Rattle.orders.proofs.insertion.respace.Goals as goal
 use Rattle.orders.proofs.insertion.respace.Goals.{In-loop-k}
 
-below : (c : In-loop-k) → c.loop-k.s < 4096
-below c = (rw (order_cons _ _ _ _ _ c.loop-k-test.true) at c.loop-k.invariant.below).0
-
 pub loop-k-init : goal.loop-k-init
 loop-k-init c =
     turn_start _ _ _ _ c.requires.below
-
-pub overflow_add-base : goal.overflow_add-base
-overflow_add-base c =
-    omega (arith, below (goal.at.overflow_add-base c).In-loop-k)
-
-pub put-changed-requires : goal.put-changed-requires
-put-changed-requires c =
-    omega (arith, below (goal.at.put-changed-requires c).In-loop-k)
-
-pub overflow_add-base-in-loop-k : goal.overflow_add-base-in-loop-k
-overflow_add-base-in-loop-k c =
-    omega (arith, below (goal.at.overflow_add-base-in-loop-k c).In-loop-k)
-
-pub offset_bounds-links-base : goal.offset_bounds-links-base
-offset_bounds-links-base c =
-    omega (arith, below (goal.at.offset_bounds-links-base c).In-loop-k)
-
-pub bounds-links-base : goal.bounds-links-base
-bounds-links-base c =
-    omega (arith, below (goal.at.bounds-links-base c).In-loop-k)
 
 pub loop-k-preserved : goal.loop-k-preserved
 loop-k-preserved c =
