@@ -4,6 +4,7 @@ ghost use Rattle.orders.specs.Order.{relabel, changes};
 ghost use Rattle.orders.specs.Model.{Inserted};
 ghost use Rattle.orders.specs.InTurn.{strands_from, Appendable, Appends};
 
+use crate::Base;
 use crate::chain::link;
 use crate::spacing::{put, spaced};
 use limits::NO_LINK;
@@ -21,29 +22,28 @@ pub struct Appending {
 pub fn append(
     labels: &mut [u64],
     links: &mut [u16],
-    lo: usize,
-    ln: usize,
+    base: Base,
     new: usize,
     settled: usize,
 ) -> Appending
-    requires { Appendable labels.old links.old lo ln new settled }
-    ensures inserted { Inserted labels.old links.old lo ln (new - 1) new labels.new links.new result.changed }
-    ensures appends { Appends labels.old links.old lo ln new settled result.settled }
+    requires { Appendable labels.old links.old base.labels base.links new settled }
+    ensures inserted { Inserted labels.old links.old base.labels base.links (new - 1) new labels.new links.new result.changed }
+    ensures appends { Appends labels.old links.old base.labels base.links new settled result.settled }
 {
     let last = new - 1;
-    link(links, ln, last, new, NO_LINK);
-    let a = labels[lo + last];
-    let gap = 18446744073709551615 - a;
+    link(links, base, last, new, NO_LINK);
+    let a = labels[base.labels + last];
+    let gap = u64::MAX - a;
     if gap >= 2 {
-        labels[lo + new] = a + gap / 2;
+        labels[base.labels + new] = a + gap / 2;
         return Appending {
             changed: 1,
             settled,
         };
     }
-    labels[lo + new] = 0;
+    labels[base.labels + new] = 0;
     let n = new + 1;
-    let changed = respace(labels, lo, settled, n);
+    let changed = respace(labels, base, settled, n);
     Appending {
         changed,
         settled: n,
@@ -51,16 +51,15 @@ pub fn append(
 }
 
 // Gives strand k the label of position k, from `at` on, and returns how many labels that changed.
-fn respace(labels: &mut [u64], lo: usize, at: usize, n: usize) -> usize
-    requires { (at ≤ n) × (n ≤ 4096) × (lo + 4096 ≤ length labels.old) }
-    ensures labels_after { labels.new ≡ relabel labels.old lo at (strands_from at (n - at)) }
-    ensures value { result ≡ changes labels.old lo at (strands_from at (n - at)) }
+#[tactic(auto, using(crate::proofs::Respaced::differ_few))]
+fn respace(labels: &mut [u64], base: Base, at: usize, n: usize) -> usize
+    requires { (at ≤ n) × (n ≤ 4096) × (base.labels + 4096 ≤ length labels.old) }
+    ensures labels_after { labels.new ≡ relabel labels.old base.labels at (strands_from at (n - at)) }
+    ensures value { result ≡ changes labels.old base.labels at (strands_from at (n - at)) }
 {
-    let mut k: usize = at;
-    let mut changed: usize = 0;
-    while k < n {
-        changed += put(labels, lo + k, spaced(k));
-        k += 1;
+    let mut changed = 0;
+    for k in at..n {
+        changed += put(labels, base.labels + k, spaced(k));
     }
     changed
 }

@@ -1,5 +1,5 @@
--- No second contents fit the contracts of `begin` and `advance`: one memory has both orders of a state and keeps all else, the arrays of the
--- open tasks are given entry by entry, and the numbers of the state are those of the trace. Where a respacing may start (`settled`, `mark`) is
+-- No second contents fit the contracts of `begin` and `advance`: one memory has both orders of a state and keeps all else, the array of the
+-- open tasks is given entry by entry, and the numbers of the state are those of the trace. Where a respacing may start (`settled`, `mark`) is
 -- promised to be right, and not which of several right ones it is: the labels and the counts are the same for each. Assumes nothing.
 use mathlib.Core.Path.{◌≡◌, refl, sym, ap, ◌∙◌}
 use mathlib.Core.Logic.{◌≢◌}
@@ -14,7 +14,7 @@ use Rattle.relation.specs.Parallel.{Rooted}
 use Rattle.orders.specs.Model.{Holds}
 use Rattle.orders.proofs.Blocks.{blocks, same_labels, same_nexts, same_backs}
 use Rattle.strands.specs.States.{english_state, hebrew_state}
-use Rattle.strands.specs.Memory.{Memory, OpenTasks}
+use Rattle.strands.specs.Memory.{Memory, OpenTasks, root}
 use Rattle.strands.specs.Reached.{Untouched, Reached, Starts, Ready, Advances}
 use Rattle.strands.specs.declared.Now.{Now}
 use Rattle.strands.proofs.States.{english_size, hebrew_size}
@@ -66,8 +66,8 @@ module _ {mv : ℕ → Move} {n : ℕ} {M₀ M M' : Memory} {T T' : OpenTasks} {
 
   same_place : suc now.top ≡ suc now'.top
   same_place =
-      sym (length-cells T.lasts T.joins now.top) ∙ ap length S.open_cells ∙ sym (ap length S'.open_cells)
-      ∙ length-cells T'.lasts T'.joins now'.top
+      sym (length-cells T now.top) ∙ ap length S.open_cells ∙ sym (ap length S'.open_cells)
+      ∙ length-cells T' now'.top
 
   pub reached_numbers : SameNumbers now now'
   reached_numbers = record {
@@ -85,16 +85,16 @@ advanced_once M T now m M' M'' T' T'' next next' R A B =
     let S' = B.behind R.mv R.n R.M₀ R.reached R.takes in
     (reached_memory R.takes.rooted S S', A.tasks_are ∙ sym B.tasks_are, reached_numbers R.takes.rooted S S')
 
--- some arrays with the root alone open
+-- an array with the root alone open
 abbrev root_alone : OpenTasks
-root_alone = record { lasts = replicate 64 0; joins = replicate 64 65535 }
+root_alone = replicate 64 root
 
 -- what `begin` gives
 pub started_once : (M₀ M M' : Memory) (now now' : Now) → Starts M₀ M now → Starts M₀ M' now' → (M ≡ M') × SameNumbers now now'
 unfolding tasks_at
 started_once M₀ M M' now now' A B =
     let mv : ℕ → Move = λ n. Stays in
-    let S = A mv root_alone refl refl refl refl in
-    let S' = B mv root_alone refl refl refl refl in
+    let S = A mv root_alone refl refl in
+    let S' = B mv root_alone refl refl in
     let root : Rooted mv 0 = λ m l. let z : m ≡ 0 = omega arith in rw z (omega arith) in
     (reached_memory root S S', reached_numbers root S S')

@@ -1,19 +1,28 @@
--- What is kept between two events, as lists: the lent memory of both orders, and the arrays of the open tasks, and the
--- same as a call's references have it.
-use Rattle.std.specs.Prelude.{List, ℕ}
+-- What is kept between two events, as lists: the lent memory of both orders, and the open tasks, and the same as a call's references
+-- have it.
+use Rattle.std.specs.Prelude.{List, ℕ, None, get_or}
 use Rattle.std.specs.Borrow.{MutBor}
+use denote.Triple.Both.{Both}
+use Rattle.strands.specs.declared.OpenTask.{OpenTask}
 
 pub record Memory : Type 0 where
   pub labels : List ℕ
   pub links : List ℕ
 
--- of the open task at place d, the root's being 0: its last strand, and the strand behind which its sync's goes; 65,535 is none
-pub record OpenTasks : Type 0 where
-  pub lasts : List ℕ
-  pub joins : List ℕ
+-- the open task at place d, the root's being 0, has entry d
+abbrev pub OpenTasks : Type 0
+OpenTasks = List OpenTask
+
+-- the root before any event
+abbrev pub root : OpenTask
+root = record { last = 0; join = None }
+
+abbrev pub task_at : OpenTasks → ℕ → OpenTask
+task_at T d = get_or T d root
 
 abbrev pub memory : MutBor (List ℕ) → MutBor (List ℕ) → Memory
 memory labels links = record { labels = labels.now; links = links.now }
 
-abbrev pub tasks : MutBor (List ℕ) → MutBor (List ℕ) → OpenTasks
-tasks lasts joins = record { lasts = lasts.now; joins = joins.now }
+-- the open tasks that a call is lent, when it is made and when it returns
+abbrev pub LentTasks : Type 0
+LentTasks = Both (MutBor OpenTasks) (MutBor OpenTasks)

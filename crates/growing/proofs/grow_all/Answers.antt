@@ -27,14 +27,6 @@ loop-j-preserved c =
       i.auto.links ∙ c.loop-j.invariant.2,
     )
 
-pub shape_of-labels : goal.shape_of-labels
-shape_of-labels c =
-    c.loop-j.invariant.1 ∙ c.begin-mark.auto.labels
-
-pub shape_of-links : goal.shape_of-links
-shape_of-links c =
-    c.loop-j.invariant.2 ∙ c.begin-mark.auto.links
-
 pub returns : goal.returns
 returns c =
     grew _ _ _ _ _ _ _ _ _ _ c.begin-mark.ensures.begun c.loop-j.invariant.0 c.loop-j-test.false (c.loop-j.invariant.1 ∙ c.begin-mark.auto.labels)

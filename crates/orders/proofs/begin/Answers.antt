@@ -1,13 +1,7 @@
 -- `begin` meets its contract: the three stores are those of `Begun`, whose other parts `begun` proves. Assumes nothing.
-use native.Mathlib.Omega.{arith}
-use lib.ListN.{length-set}
 use Rattle.orders.proofs.Held.{begun}
 use Rattle.orders.proofs.Marked.{settled_first}
 use Rattle.orders.proofs.begin.Goals as goal
-
-pub bounds-links-ln-2 : goal.bounds-links-ln-2
-bounds-links-ln-2 c =
-    simp length-set (omega arith)
 
 pub returns-clause-begun : goal.returns-clause-begun
 returns-clause-begun c =

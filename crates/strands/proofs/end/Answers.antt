@@ -1,12 +1,7 @@
--- `strands::end` meets its contract: the event may come, so the task has a parent, and the stores are those of `end_applies`. Assumes nothing.
-use mathlib.Core.Path.{refl}
+-- `strands::end` meets its contract: the event may come, so the task has a parent, and the store is that of `end_applies`. Assumes nothing.
 use Rattle.strands.proofs.Events.{end_applies}
 use Rattle.strands.proofs.end.Goals as goal
 
-pub overflow_sub-parent : goal.overflow_sub-parent
-overflow_sub-parent c =
-    c.requires.higher refl
-
 pub returns : goal.returns
 returns c =
-    end_applies _ _ _ _ c.join_after-join.ensures c.requires
+    end_applies _ _ _ _ (rw c.or.ensures at c.or-join.ensures) c.requires

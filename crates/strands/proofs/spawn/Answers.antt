@@ -1,15 +1,6 @@
--- `strands::spawn` meets its contract: the event may come, so there is a place for the child, and the stores are those of `spawn_applies`. Assumes nothing.
-use mathlib.Core.Path.{refl}
+-- `strands::spawn` meets its contract: the event may come, so there is a place for the child, and the store is that of `spawn_applies`. Assumes nothing.
 use Rattle.strands.proofs.Events.{spawn_applies}
 use Rattle.strands.proofs.spawn.Goals as goal
-
-pub bounds-lasts-child : goal.bounds-lasts-child
-bounds-lasts-child c =
-    c.requires.deeper refl
-
-pub bounds-joins-child : goal.bounds-joins-child
-bounds-joins-child c =
-    c.requires.deeper refl
 
 pub returns : goal.returns
 returns c =

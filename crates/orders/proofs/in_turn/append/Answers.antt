@@ -1,7 +1,6 @@
 -- `orders::in_turn::append` meets its contract: no strand comes after the last, and either branch leaves the labels and the count of `placed`
 -- and `placings`. Assumes nothing.
-use mathlib.Core.Path.{sym, ◌∙◌}
-use lib.ListN.{length-set}
+use mathlib.Core.Path.{sym}
 use Rattle.orders.proofs.InTurn.{last_held, last_below, appended_between, appended_respaced}
 use Rattle.orders.proofs.in_turn.append.Goals as goal
 
@@ -17,10 +16,6 @@ pub returns-then-gap-ge2 : goal.returns-then-gap-ge2
 returns-then-gap-ge2 c =
     let it = appended_between _ _ _ _ _ _ c.requires c.if-gap-ge2.true in
     record { inserted = rw c.link.ensures it.0; appends = it.1 }
-
-pub shape_of-labels : goal.shape_of-labels
-shape_of-labels c =
-    c.respace-changed.auto.labels ∙ simp length-set
 
 pub returns : goal.returns
 returns c =

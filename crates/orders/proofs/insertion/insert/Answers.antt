@@ -1,19 +1,18 @@
 -- `orders::insertion::insert` meets its contract: `link` leaves the links, and either branch leaves the labels and the count of `placed` and
 -- `placings`; `inserted` says the rest of both. The labels rise, so the gap does not wrap. Assumes nothing.
-use mathlib.Core.Path.{◌≡◌, ◌∙◌}
-use lib.ListN.{length-set}
+use mathlib.Core.Path.{◌≡◌}
 use Rattle.orders.specs.Order.{next_in, linked, above}
 use Rattle.orders.proofs.Held.{gap, walkable, inserted_between, inserted_respaced}
 use Rattle.orders.proofs.insertion.insert.Goals as goal
 use Rattle.orders.proofs.insertion.insert.Goals.{After-above}
 
 -- the links since `link`
-linked_now : (c : After-above) → c.link.new.links ≡ linked c.args.links.now c.args.ln c.args.after c.args.new
+linked_now : (c : After-above) → c.link.new.links ≡ linked c.args.links.now c.args.base.links c.args.after c.args.new
 linked_now c = c.link.ensures
 
 -- `above` returned what the spec says of the strand after `after`
-high : (c : After-above) → c.above.result ≡ above c.args.labels.now c.args.lo (next_in c.args.links.now c.args.ln c.args.after)
-high c = rw (← c.wide.ensures) c.above.ensures
+high : (c : After-above) → c.above.result ≡ above c.args.labels.now c.args.base.labels (next_in c.args.links.now c.args.base.links c.args.after)
+high c = rw (← c.from.ensures) c.above.ensures
 
 pub overflow_sub-gap : goal.overflow_sub-gap
 overflow_sub-gap c =
@@ -28,10 +27,6 @@ returns-then-gap-ge2 c =
 pub respace-changed-requires : goal.respace-changed-requires
 respace-changed-requires c =
     rw (linked_now (goal.at.respace-changed-requires c).After-above, c.lowered-low.ensures) (walkable _ _ _ _ _ _ _ c.requires)
-
-pub shape_of-labels : goal.shape_of-labels
-shape_of-labels c =
-    c.respace-changed.auto.labels ∙ simp length-set
 
 pub returns : goal.returns
 returns c =

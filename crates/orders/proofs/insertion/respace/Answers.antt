@@ -1,62 +1,18 @@
 -- `orders::insertion::respace` meets its contract: at the loop's head what is done and what is left to do, the strands that the links give,
 -- make the whole (`Respacing`). Assumes nothing.
-use Prim.Native.Nat.{◌<◌, ◌≤◌}
-use native.Mathlib.Omega.{arith}
-use Rattle.orders.proofs.Respaced.{turn_start, turn_more, turn_done, order_cons, order_none, differ_few}
+use Rattle.orders.proofs.Respaced.{turn_start, turn_more, turn_done, order_cons, order_none}
 use Rattle.orders.proofs.insertion.respace.Goals as goal
 use Rattle.orders.proofs.insertion.respace.Goals.{In-loop-k}
 
-below : (c : In-loop-k) → c.loop-k.s < 4096
-below c = (rw (order_cons _ _ _ _ _ c.loop-k-test.true) at c.loop-k.invariant.1.below).0
-
 pub loop-k-init : goal.loop-k-init
 loop-k-init c =
-    (c.requires.start, turn_start _ _ _ _ c.requires.below)
-
-pub overflow_add-lo : goal.overflow_add-lo
-overflow_add-lo c =
-    omega (arith, below (goal.at.overflow_add-lo c).In-loop-k)
-
-pub spaced-requires : goal.spaced-requires
-spaced-requires c =
-    omega arith
-
-pub put-changed-requires : goal.put-changed-requires
-put-changed-requires c =
-    omega (arith, below (goal.at.put-changed-requires c).In-loop-k)
-
-pub overflow_add-changed : goal.overflow_add-changed
-overflow_add-changed c =
-    let few : c.put-changed.result ≤ 1 = rw c.put-changed.ensures.value (differ_few _ _) in
-    omega arith
-
-pub overflow_add-ln : goal.overflow_add-ln
-overflow_add-ln c =
-    omega (arith, below (goal.at.overflow_add-ln c).In-loop-k)
-
-pub offset_bounds-links-ln : goal.offset_bounds-links-ln
-offset_bounds-links-ln c =
-    omega (arith, below (goal.at.offset_bounds-links-ln c).In-loop-k)
-
-pub bounds-links-ln : goal.bounds-links-ln
-bounds-links-ln c =
-    omega (arith, below (goal.at.bounds-links-ln c).In-loop-k)
-
-pub overflow_add-k : goal.overflow_add-k
-overflow_add-k c =
-    omega arith
-
-pub loop-k-smaller : goal.loop-k-smaller
-loop-k-smaller c =
-    omega arith
+    turn_start _ _ _ _ c.requires.below
 
 pub loop-k-preserved : goal.loop-k-preserved
-loop-k-preserved c = (
-  omega arith,
-  rw (c.wide-s.ensures, c.put-changed.ensures.labels_after, c.put-changed.ensures.value, c.spaced.ensures)
-      (turn_more _ _ _ _ _ _ _ _ _ (rw (order_cons _ _ _ _ _ c.loop-k-test.true) at c.loop-k.invariant.1)),
-)
+loop-k-preserved c =
+    rw (c.from-s.ensures, c.put-changed.ensures.labels_after, c.put-changed.ensures.value, c.spaced.ensures)
+    (turn_more _ _ _ _ _ _ _ _ _ (rw (order_cons _ _ _ _ _ c.loop-k-test.true) at c.loop-k.invariant))
 
 pub returns : goal.returns
 returns c =
-    let it = turn_done _ _ _ _ _ _ _ (rw (order_none _ _ _ _ _ c.loop-k-test.false) at c.loop-k.invariant.1) in record { labels_after = it.0; value = it.1 }
+    let it = turn_done _ _ _ _ _ _ _ (rw (order_none _ _ _ _ _ c.loop-k-test.false) at c.loop-k.invariant) in record { labels_after = it.0; value = it.1 }
