@@ -72,7 +72,7 @@ fn place_of(kind: Kind) -> usize
     }
 }
 
-// A choice that stays without a branch: an `if` in its place became one, of two numbers and of a struct of them.
+// The choice stays without a branch as a function; as an `if` in its place, of the numbers or of a struct of both, it became one (slower).
 fn pick(first: bool, a: u32, b: u32) -> u32
     ensures { result ≡ cond first a b }
 {
