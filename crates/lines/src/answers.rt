@@ -7,7 +7,6 @@ ghost use Rattle.lines.specs.Text.{entry_text, entries_text, raced_text, listed_
 
 use bytes_at::put;
 use per_record::Answer;
-use races::wide;
 
 // The text of an answer, for the event part and the name of the file and the lists that came with the answer.
 // requires: there is room for the longest text, and the entries of the raced records and the events of each are there.
@@ -85,9 +84,9 @@ fn entries(
             out,
             at,
             events,
-            wide(records[i]),
-            wide(firsts[i]),
-            wide(seconds[i]),
+            records[i] as usize,
+            firsts[i] as usize,
+            seconds[i] as usize,
         );
         i += 1;
     }

@@ -21,7 +21,6 @@ ghost use Rattle.per_record.specs.Gives.{RecordsGives};
 
 use jobfile::{Access, Checked, Job, Kind, Refusal};
 use limits::{EVENTS, NO_PLACE, NO_STRAND, OPEN_TASKS, RECORDS};
-use races::wide;
 use strands::Now;
 use taking::{Reach, until_race};
 
@@ -291,7 +290,7 @@ fn enter(
 fn kind_in(mark: u32) -> Kind
     ensures { result ≡ kind_in mark }
 {
-    if wide(mark) < EVENTS {
+    if (mark as usize) < EVENTS {
         return Kind::Write;
     }
     Kind::Read
@@ -301,7 +300,7 @@ fn kind_in(mark: u32) -> Kind
 fn second_in(mark: u32) -> u32
     ensures { result ≡ second_in mark }
 {
-    if wide(mark) < EVENTS {
+    if (mark as usize) < EVENTS {
         return mark;
     }
     mark - EVENTS as u32

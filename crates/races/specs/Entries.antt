@@ -1,5 +1,5 @@
 -- The places in a lent buffer: the event that a place holds stands at some entry, and its strand a gap further on.
-use Rattle.std.specs.Prelude.{◌≡◌, ◌≢◌, List, ℕ, zero, suc, ◌+◌, ◌<◌, length, get_or, set}
+use Rattle.std.specs.Prelude.{◌≡◌, ◌≢◌, List, ℕ, ◌+◌, ◌++◌, ◌<◌, length, get_or, set, take, drop, replicate}
 use Rattle.std.proofs.Math.Option.{Option, none, some}
 
 -- the place with an event and its strand put there
@@ -8,8 +8,7 @@ put P at gap event strand = set (set P at event) (at + gap) strand
 
 -- so many entries from one on set to none
 unfoldable pub filled : List ℕ → ℕ → ℕ → List ℕ
-filled P from zero = P
-filled P from (suc k) = set (filled P from k) (from + k) 4294967295
+filled P from k = take from P ++ (replicate k 4294967295 ++ drop (from + k) P)
 
 -- "4,294,967,295 is none, for an event and its strand alike"
 abbrev pub event_or : Option ℕ → ℕ

@@ -25,16 +25,13 @@ pub fn clear(places: &mut [u32], records: usize)
 }
 
 // Makes as many entries from `from` on none: one fill of memory for each of the four parts.
+#[tactic(auto, unfolding(crate::specs::Entries::filled))]
 fn empty(places: &mut [u32], from: usize, records: usize)
     requires { from + records ≤ length places.old }
     ensures places_value { is places ≡ filled (was places) from records }
     ensures places_len { length (is places) ≡ length (was places) }
 {
-    let mut r: usize = 0;
-    while r < records {
-        places[from + r] = NO_PLACE;
-        r += 1;
-    }
+    places[from..from + records].fill(NO_PLACE);
 }
 
 // The event that the place of a kind holds: the last write's of record r, or the standing read's.
@@ -43,7 +40,7 @@ pub fn held(places: &[u32], kind: Kind, r: usize) -> usize
     requires { 8192 + r < length places.now }
     ensures { result ≡ get_or places.now (8192 * rank kind + r) 0 }
 {
-    wide(places[place_of(kind) + r])
+    places[place_of(kind) + r] as usize
 }
 
 // Event `at`, in `strand`, accesses record r and races with nothing: neither the last write nor, if this is a write, the standing read is
@@ -60,7 +57,8 @@ pub fn access(places: &mut [u32], kind: Kind, r: usize, at: usize, strand: usize
     let place = place_of(kind) + r;
     let event = pick(stood, places[place], at as u32);
     let held = pick(stood, places[place + ITS_STRAND], strand as u32);
-    put(places, place, event, held);
+    places[place] = event;
+    places[place + ITS_STRAND] = held;
 }
 
 // Where the events of a kind's places begin.
@@ -74,27 +72,9 @@ fn place_of(kind: Kind) -> usize
     }
 }
 
-// Puts an event and its strand into the place whose event is at `at`.
-fn put(places: &mut [u32], at: usize, event: u32, strand: u32)
-    requires { at + 4096 < length places.old }
-    ensures { is places ≡ put (was places) at 4096 event strand }
-{
-    places[at] = event;
-    places[at + ITS_STRAND] = strand;
-}
-
+// The choice stays without a branch as a function; as an `if` in its place, of the numbers or of a struct of both, it became one (slower).
 fn pick(first: bool, a: u32, b: u32) -> u32
     ensures { result ≡ cond first a b }
 {
-    if first {
-        return a;
-    }
-    b
-}
-
-// An entry of the places as a number.
-pub fn wide(x: u32) -> usize
-    ensures { result ≡ x }
-{
-    x as usize
+    if first { a } else { b }
 }

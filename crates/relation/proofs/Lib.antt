@@ -4,7 +4,6 @@ pub mod Agree
 pub mod Strand
 pub mod Laws
 pub mod Spawned
-pub mod Moves
 pub mod Answers
 pub mod Files
 pub mod Meaning

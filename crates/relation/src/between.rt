@@ -9,7 +9,7 @@ use jobfile::{Move, event_at, move_of};
 
 // How far the current task lies under the innermost open task that contained the start, and
 // whether the start is parallel to where the walk stands.
-#[derive(Clone, Copy)]
+#[derive(Clone, Copy, Default)]
 pub struct Walker {
     pub height: usize,
     pub par: bool,
@@ -21,51 +21,33 @@ pub fn parallel(part: &[u8], p: usize, q: usize) -> bool
     requires { Stretch part.now p q }
     ensures { result ≡ par (moves (event_at part.now)) p q }
 {
-    let mut w = Walker {
-        height: 0,
-        par: false,
-    };
-    let mut n = p;
-    while n < q {
-        w = moved(w, move_of(event_at(part, n)));
-        n += 1;
+    let mut w = Walker::default();
+    for n in p..q {
+        w = w.moved(move_of(event_at(part, n)));
     }
     w.par
 }
 
-// One event further. Every task that an end closes was spawned.
-// requires: the height is below the limit of events, so that it does not wrap.
-fn moved(w: Walker, m: Move) -> Walker
-    requires { w.height < 1000000 }
-    ensures result_value { walker_of result ≡ move m true (walker_of w) }
-    ensures height_bound { result.height ≤ w.height + 1 }
-{
-    match m {
-        Move::Opens => Walker {
-            height: w.height + 1,
-            par: w.par,
-        },
-        Move::Closes => {
-            if w.height == 0 {
-                return Walker {
-                    height: 0,
-                    par: true,
-                };
-            }
-            Walker {
-                height: w.height - 1,
-                par: w.par,
-            }
+impl Walker {
+    // One event further. Every task that an end closes was spawned.
+    // requires: the height is below the limit of events, so that it does not wrap.
+    fn moved(self, m: Move) -> Walker
+        requires { self.height < 1000000 }
+        ensures result_value { walker_of result ≡ move m true (walker_of self) }
+        ensures height_bound { result.height ≤ self.height + 1 }
+    {
+        match m {
+            Move::Opens => Walker {
+                height: self.height + 1,
+                ..self
+            },
+            Move::Closes if self.height == 0 => Walker { par: true, ..self },
+            Move::Closes => Walker {
+                height: self.height - 1,
+                ..self
+            },
+            Move::Joins if self.height == 0 => Walker { par: false, ..self },
+            Move::Joins | Move::Stays => self,
         }
-        Move::Joins => {
-            if w.height > 0 {
-                return w;
-            }
-            Walker {
-                height: w.height,
-                par: false,
-            }
-        }
-        Move::Stays => w,
     }
 }

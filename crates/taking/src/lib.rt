@@ -14,7 +14,6 @@ ghost use Rattle.jobfile.specs.Trace.{event_at};
 
 use jobfile::{Access, Kind};
 use limits::{HEBREW_LABELS, ITS_STRAND, OPEN_TASKS, STANDING_READS, STRANDS};
-use races::wide;
 use strands::Now;
 
 // What one event leads to: the next state; or it is the second access of a race, and nothing is stored.
@@ -109,11 +108,11 @@ fn take(
         Access::To { kind, record } => {
             let r = record as usize;
             let strand = state.strands - 1;
-            let wrote = held_or(wide(places[r + ITS_STRAND]), strand);
+            let wrote = held_or(places[r + ITS_STRAND] as usize, strand);
             if above(labels, strand, wrote) {
                 return Turn::Raced;
             }
-            let read = held_or(wide(places[STANDING_READS + r + ITS_STRAND]), strand);
+            let read = held_or(places[STANDING_READS + r + ITS_STRAND] as usize, strand);
             if above(labels, strand, clashing(kind, read, strand)) {
                 return Turn::Raced;
             }
@@ -135,7 +134,7 @@ pub fn find(part: &[u8], i: usize, state: Now, labels: &[u64], places: &[u32]) -
 {
     let record = record_at(part, i);
     let strand = state.strands - 1;
-    let wrote = held_or(wide(places[record + ITS_STRAND]), strand);
+    let wrote = held_or(places[record + ITS_STRAND] as usize, strand);
     if above(labels, strand, wrote) {
         return Found {
             kind: Kind::Write,

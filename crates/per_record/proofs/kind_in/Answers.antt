@@ -2,10 +2,10 @@
 use Rattle.per_record.proofs.Marking.{low_kind, high_kind}
 use Rattle.per_record.proofs.kind_in.Goals as goal
 
-pub returns-then-wide-lt-EVENTS : goal.returns-then-wide-lt-EVENTS
-returns-then-wide-lt-EVENTS c =
-    low_kind _ (rw c.wide.ensures at c.if-wide-lt-EVENTS.true)
+pub returns-then-mark-lt-EVENTS : goal.returns-then-mark-lt-EVENTS
+returns-then-mark-lt-EVENTS c =
+    low_kind _ c.if-mark-lt-EVENTS.true
 
 pub returns : goal.returns
 returns c =
-    high_kind _ (rw c.wide.ensures at c.if-wide-lt-EVENTS.false)
+    high_kind _ c.if-mark-lt-EVENTS.false

@@ -2,10 +2,10 @@
 use Rattle.per_record.proofs.Marking.{low_second, high_second}
 use Rattle.per_record.proofs.second_in.Goals as goal
 
-pub returns-then-wide-lt-EVENTS : goal.returns-then-wide-lt-EVENTS
-returns-then-wide-lt-EVENTS c =
-    low_second _ (rw c.wide.ensures at c.if-wide-lt-EVENTS.true)
+pub returns-then-mark-lt-EVENTS : goal.returns-then-mark-lt-EVENTS
+returns-then-mark-lt-EVENTS c =
+    low_second _ c.if-mark-lt-EVENTS.true
 
 pub returns : goal.returns
 returns c =
-    high_second _ (rw c.wide.ensures at c.if-wide-lt-EVENTS.false)
+    high_second _ c.if-mark-lt-EVENTS.false

@@ -31,9 +31,9 @@ above-requires c =
 pub returns-then-above : goal.returns-then-above
 returns-then-above c =
     let named = c.record_at-record.ensures in
-    found_written c.requires _ named (rw (c.held_or-wrote.ensures.value, c.wide.ensures) at (sym c.if-above.true ∙ c.above.ensures))
+    found_written c.requires _ named (rw c.held_or-wrote.ensures.value at (sym c.if-above.true ∙ c.above.ensures))
 
 pub returns : goal.returns
 returns c =
     let named = c.record_at-record.ensures in
-    found_read c.requires _ named (rw (c.held_or-wrote.ensures.value, c.wide.ensures) at (sym c.if-above.false ∙ c.above.ensures))
+    found_read c.requires _ named (rw c.held_or-wrote.ensures.value at (sym c.if-above.false ∙ c.above.ensures))

@@ -31,7 +31,7 @@ returns-then-above c =
     let asked = c.requires in
     let to = sym c.access_of.ensures ∙ c.in-To.is in
     turns_written asked _ c.event_at-e.ensures _ _ to
-    (rw (c.held_or-wrote.ensures.value, c.wide.ensures) at (sym c.if-above.true ∙ c.above.ensures))
+    (rw c.held_or-wrote.ensures.value at (sym c.if-above.true ∙ c.above.ensures))
 
 pub bounds-places-r-in-To : goal.bounds-places-r-in-To
 bounds-places-r-in-To c =
@@ -59,9 +59,9 @@ pub returns-then-above-2 : goal.returns-then-above-2
 returns-then-above-2 c =
     let asked = c.requires in
     let to = sym c.access_of.ensures ∙ c.in-To.is in
-    let wrote = rw (c.held_or-wrote.ensures.value, c.wide.ensures) at (sym c.if-above.false ∙ c.above.ensures) in
+    let wrote = rw c.held_or-wrote.ensures.value at (sym c.if-above.false ∙ c.above.ensures) in
     turns_read asked _ c.event_at-e.ensures _ _ to wrote
-    (rw (c.clashing.ensures.value, c.held_or-read.ensures.value, c.wide-in-To.ensures) at (sym c.if-above-2.true ∙ c.above-in-To.ensures))
+    (rw (c.clashing.ensures.value, c.held_or-read.ensures.value) at (sym c.if-above-2.true ∙ c.above-in-To.ensures))
 
 pub above-requires-in-To-2 : goal.above-requires-in-To-2
 above-requires-in-To-2 c =
@@ -73,27 +73,27 @@ pub access-requires-clause-accessible : goal.access-requires-clause-accessible
 access-requires-clause-accessible c =
     let asked = c.requires in
     let to = sym c.access_of.ensures ∙ c.in-To.is in
-    let wrote = rw (c.held_or-wrote.ensures.value, c.wide.ensures) at (sym c.if-above.false ∙ c.above.ensures) in
-    let stood = rw (c.held_or-read.ensures.value, c.wide-in-To.ensures) at c.above-in-To-2.ensures in
-    let clear = rw (c.clashing.ensures.value, c.held_or-read.ensures.value, c.wide-in-To.ensures) at (sym c.if-above-2.false ∙ c.above-in-To.ensures) in
+    let wrote = rw c.held_or-wrote.ensures.value at (sym c.if-above.false ∙ c.above.ensures) in
+    let stood = rw c.held_or-read.ensures.value at c.above-in-To-2.ensures in
+    let clear = rw (c.clashing.ensures.value, c.held_or-read.ensures.value) at (sym c.if-above-2.false ∙ c.above-in-To.ensures) in
     let below = record_below asked _ c.event_at-e.ensures _ _ to in accessible asked _ c.event_at-e.ensures _ _ to wrote _ stood clear
 
 pub access-requires-clause-names_none : goal.access-requires-clause-names_none
 access-requires-clause-names_none c =
     let asked = c.requires in
     let to = sym c.access_of.ensures ∙ c.in-To.is in
-    let wrote = rw (c.held_or-wrote.ensures.value, c.wide.ensures) at (sym c.if-above.false ∙ c.above.ensures) in
-    let stood = rw (c.held_or-read.ensures.value, c.wide-in-To.ensures) at c.above-in-To-2.ensures in
-    let clear = rw (c.clashing.ensures.value, c.held_or-read.ensures.value, c.wide-in-To.ensures) at (sym c.if-above-2.false ∙ c.above-in-To.ensures) in
+    let wrote = rw c.held_or-wrote.ensures.value at (sym c.if-above.false ∙ c.above.ensures) in
+    let stood = rw c.held_or-read.ensures.value at c.above-in-To-2.ensures in
+    let clear = rw (c.clashing.ensures.value, c.held_or-read.ensures.value) at (sym c.if-above-2.false ∙ c.above-in-To.ensures) in
     let below = record_below asked _ c.event_at-e.ensures _ _ to in names_nothing asked _ c.event_at-e.ensures _ _ to wrote _ stood clear
 
 pub access-requires-clause-r_in_bounds : goal.access-requires-clause-r_in_bounds
 access-requires-clause-r_in_bounds c =
     let asked = c.requires in
     let to = sym c.access_of.ensures ∙ c.in-To.is in
-    let wrote = rw (c.held_or-wrote.ensures.value, c.wide.ensures) at (sym c.if-above.false ∙ c.above.ensures) in
-    let stood = rw (c.held_or-read.ensures.value, c.wide-in-To.ensures) at c.above-in-To-2.ensures in
-    let clear = rw (c.clashing.ensures.value, c.held_or-read.ensures.value, c.wide-in-To.ensures) at (sym c.if-above-2.false ∙ c.above-in-To.ensures) in
+    let wrote = rw c.held_or-wrote.ensures.value at (sym c.if-above.false ∙ c.above.ensures) in
+    let stood = rw c.held_or-read.ensures.value at c.above-in-To-2.ensures in
+    let clear = rw (c.clashing.ensures.value, c.held_or-read.ensures.value) at (sym c.if-above-2.false ∙ c.above-in-To.ensures) in
     let below = record_below asked _ c.event_at-e.ensures _ _ to in omega (arith, asked.midway.places_room)
 
 pub advance-requires : goal.advance-requires
@@ -106,9 +106,9 @@ pub returns-else-above-2 : goal.returns-else-above-2
 returns-else-above-2 c =
     let asked = c.requires in
     let to = sym c.access_of.ensures ∙ c.in-To.is in
-    let wrote = rw (c.held_or-wrote.ensures.value, c.wide.ensures) at (sym c.if-above.false ∙ c.above.ensures) in
-    let stood = rw (c.held_or-read.ensures.value, c.wide-in-To.ensures) at c.above-in-To-2.ensures in
-    let clear = rw (c.clashing.ensures.value, c.held_or-read.ensures.value, c.wide-in-To.ensures) at (sym c.if-above-2.false ∙ c.above-in-To.ensures) in
+    let wrote = rw c.held_or-wrote.ensures.value at (sym c.if-above.false ∙ c.above.ensures) in
+    let stood = rw c.held_or-read.ensures.value at c.above-in-To-2.ensures in
+    let clear = rw (c.clashing.ensures.value, c.held_or-read.ensures.value) at (sym c.if-above-2.false ∙ c.above-in-To.ensures) in
     turns_accessed asked _ c.event_at-e.ensures _ _ to wrote _ stood clear c.access.new.places c.access.ensures
 
 pub returns-in-None : goal.returns-in-None

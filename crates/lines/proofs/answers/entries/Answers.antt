@@ -10,15 +10,15 @@ loop-i-init c =
 
 pub entry-at-requires-clause-first_in_bounds : goal.entry-at-requires-clause-first_in_bounds
 entry-at-requires-clause-first_in_bounds c =
-    let one = c.requires.entries_within.first_within c.loop-i.i (omega arith) in omega (arith, c.wide-in-loop-i.ensures, one)
+    let one = c.requires.entries_within.first_within c.loop-i.i (omega arith) in omega (arith, one)
 
 pub entry-at-requires-clause-second_in_bounds : goal.entry-at-requires-clause-second_in_bounds
 entry-at-requires-clause-second_in_bounds c =
-    let two = c.requires.entries_within.second_within c.loop-i.i (omega arith) in omega (arith, c.wide-in-loop-i-2.ensures, two)
+    let two = c.requires.entries_within.second_within c.loop-i.i (omega arith) in omega (arith, two)
 
 pub loop-i-preserved : goal.loop-i-preserved
 loop-i-preserved c =
-    let line = rw (c.wide.ensures, c.wide-in-loop-i.ensures, c.wide-in-loop-i-2.ensures) at c.entry-at.ensures.put in
+    let line = c.entry-at.ensures.put in
     (omega arith, omega (arith, c.entry-at.ensures.upper_bound), omega arith, entries_more _ _ _ c.loop-i.invariant.3 line)
 
 pub returns-clause-put : goal.returns-clause-put

@@ -1,6 +1,0 @@
--- `held` meets its contract: the entry is that of the kind's place. Assumes nothing.
-use Rattle.races.proofs.held.Goals as goal
-
-pub returns : goal.returns
-returns c =
-    rw (c.wide.ensures, c.place_of.ensures.value)
