@@ -6,15 +6,15 @@ use native.Mathlib.Omega.{arith}
 use lib.ListN.{length}
 use Rattle.writing.specs.Written.{write_of, out_after, WriteFits, refusal_number, bytes_written}
 use Rattle.writing.specs.Gives.{WriteGives}
-use Rattle.writing.specs.declared.Written.{Written}
-use Rattle.writing.specs.declared.Written.TheVariants.{Bytes, Refused}
+use Rattle.std.specs.Prelude.{Result, Ok, Err}
+use Rattle.jobfile.specs.declared.refusal.Refusal.{Refusal}
 use Rattle.writing.proofs.Rows.{writing_exact, writing_numbers}
 
-no_bytes : (w : Written) → 0 < refusal_number w → bytes_written w ≡ 0
-no_bytes (Bytes n) h = absurd (omega (arith, h))
-no_bytes (Refused r) h = refl
+no_bytes : (w : Result ℕ Refusal) → 0 < refusal_number w → bytes_written w ≡ 0
+no_bytes (Ok n) h = absurd (omega (arith, h))
+no_bytes (Err r) h = refl
 
-module _ (name : List ℕ) (records : ℕ) (events out : List ℕ) (w : Written) (left : List ℕ) where
+module _ (name : List ℕ) (records : ℕ) (events out : List ℕ) (w : Result ℕ Refusal) (left : List ℕ) where
   pub write_gives : w ≡ write_of name records events (length out) → left ≡ out_after name records events out → WriteFits w (length out)
       → WriteGives name records events out w left
   write_gives e l f = record {

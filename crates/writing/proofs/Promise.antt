@@ -4,7 +4,8 @@ use mathlib.Core.Path.{◌≡◌, refl}
 use contract.Lifetimes.{Lfts}
 use denote.Triple.Clauses.{AtExit}
 use borrow.Fn.Kinds.{Dens, ended_of}
-use Rattle.writing.specs.declared.Written.{Written}
+use Rattle.std.specs.Prelude.{ℕ, Result}
+use Rattle.jobfile.specs.declared.refusal.Refusal.{Refusal}
 use Rattle.writing.specs.Gives.{WriteGives}
 use Rattle.writing.proofs.write.Kinds as kinds
 use Rattle.writing.proofs.write.Reads as write
@@ -21,5 +22,5 @@ module _ (κs : Lfts 3) (a : Dens κs kinds.ps) where
   write_asks = refl
 
   -- a: the arguments, s: what is left in what was lent
-  pub write_promises : (w : Written) (s : AtExit (ended_of 3 kinds.ps kinds.r) κs) → write.Post κs a w s ≡ WriteGives a.0.now a.1.0 a.1.1.0.now a.1.1.1.0.now w s.1.1.1.0.now
+  pub write_promises : (w : Result ℕ Refusal) (s : AtExit (ended_of 3 kinds.ps kinds.r) κs) → write.Post κs a w s ≡ WriteGives a.0.now a.1.0 a.1.1.0.now a.1.1.1.0.now w s.1.1.1.0.now
   write_promises w s = refl
