@@ -1,5 +1,5 @@
 -- The one line that the program prints, byte by byte, as a function of the input's bytes; and what `line` gives and leaves.
-use Rattle.std.specs.Prelude.{ℕ, ◌≤◌, ◌<◌, ◌≡◌, cond, List, ◌++◌, ltb, length, take, drop}
+use Rattle.std.specs.Prelude.{ℕ, ◌<◌, ◌≡◌, cond, List, ◌++◌, ltb, length, take, drop}
 use Rattle.io.specs.Counts.{IsPrefixLen}
 use Rattle.jobfile.specs.File.{check_of, name_length, event_count, event_part}
 use Rattle.judging.specs.Answers.{judge_of}
@@ -7,7 +7,6 @@ use Rattle.judging.specs.Leaves.{Leaves}
 use Rattle.judging.specs.declared.Answer.{Answer}
 use Rattle.taking.specs.Buffers.{Buffers}
 use Rattle.line.specs.Text.{answer_text}
-use Rattle.bytes_at.specs.Put.{Put}
 use Rattle.line.specs.declared.Lined.{Lined}
 use Rattle.line.specs.declared.Lined.TheVariants.{Bytes, Short}
 
@@ -45,8 +44,7 @@ pub record LineGives (input : List ℕ) (B₀ : Buffers) (out₀ : List ℕ) (r 
   pub output : out ≡ out_of (line_with input B₀) out₀
   pub buffers : Leaves (judge_all_with input B₀) input (event_count (check_of input)) B₀ B
 
--- What is put into a text of at least 256 bytes: the line, whose bytes are as many as n says; and what is left in the work buffers.
-pub record TextGives (input : List ℕ) (B₀ : Buffers) (text₀ : List ℕ) (n : ℕ) (B : Buffers) (text : List ℕ) : Type 0 where
-  pub line : Put text₀ 0 (line_with input B₀) n text
-  pub fits : n ≤ 256
+-- What is judged for the line: its text, and what is left in the work buffers.
+pub record TextGives (input : List ℕ) (B₀ : Buffers) (text : List ℕ) (B : Buffers) : Type 0 where
+  pub line : text ≡ line_with input B₀
   pub buffers : Leaves (judge_all_with input B₀) input (event_count (check_of input)) B₀ B

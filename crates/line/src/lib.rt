@@ -16,9 +16,8 @@ ghost use Rattle.taking.specs.Buffers.{before, after};
 ghost use Rattle.line.specs.Line.{lined_of, out_of, LineFits, LineGives, TextGives};
 
 pub use answers::{clean, counts, ending, kinds, pair, refusal};
-use bytes_at::put;
 use jobfile::{Checked, Job};
-pub use text::field;
+pub use text::{Text, field, put};
 
 // How many bytes were put; or that the output is too short for them.
 #[derive(Clone, Copy)]
@@ -39,49 +38,32 @@ pub fn line(
     ensures line_gives { LineGives input.now (before labels links places) (was out) result (after labels links places) (is out) }
     ensures line_fits { LineFits result (is out) }
 {
-    let mut text = [0u8; 256];
-    let n = text_of(&mut text, input, labels, links, places);
-    deliver(&text[..n], out)
+    let text = text_of(input, labels, links, places);
+    deliver(&text, out)
 }
 
-// The line at the start of a buffer that has room for every line. The events are walked twice: by the check, and by judging.
-// requires: there is room for the longest line.
-fn text_of(
-    text: &mut [u8],
-    input: &[u8],
-    labels: &mut [u64],
-    links: &mut [u16],
-    places: &mut [u32],
-) -> usize
-    requires { 256 ≤ length text.old }
-    ensures { TextGives input.now (before labels links places) (was text) result (after labels links places) (is text) }
+// The line. The events are walked twice: by the check, and by judging.
+fn text_of(input: &[u8], labels: &mut [u64], links: &mut [u16], places: &mut [u32]) -> Text
+    ensures { TextGives input.now (before labels links places) result.items (after labels links places) }
 {
     match jobfile::check(input) {
-        Checked::Refused(r) => answers::refusal(text, r),
-        Checked::Accepted(job) => judged(text, input, job, labels, links, places),
+        Checked::Refused(r) => refusal(r),
+        Checked::Accepted(job) => judged(input, job, labels, links, places),
     }
 }
 
 // The same for an input that has been checked.
-// requires: as `text_of`, and the job is what the check of this very input gives.
-fn judged(
-    text: &mut [u8],
-    input: &[u8],
-    job: Job,
-    labels: &mut [u64],
-    links: &mut [u16],
-    places: &mut [u32],
-) -> usize
-    requires in_bounds { 256 ≤ length text.old }
-    requires input_value { check_of input.now ≡ Accepted job }
-    ensures { TextGives input.now (before labels links places) (was text) result (after labels links places) (is text) }
+// requires: the job is what the check of this very input gives.
+fn judged(input: &[u8], job: Job, labels: &mut [u64], links: &mut [u16], places: &mut [u32]) -> Text
+    requires { check_of input.now ≡ Accepted job }
+    ensures { TextGives input.now (before labels links places) result.items (after labels links places) }
 {
     let start = job.start;
     let end = start + 4 * job.events;
     let events = &input[start..end];
     let name = &input[..start];
     let answer = judging::judge_job(input, job, job.events, labels, links, places);
-    answers::answer(text, answer, events, name)
+    answers::answer(answer, events, name)
 }
 
 // The bytes at the start of the output, or nothing where they do not fit.
@@ -95,5 +77,5 @@ fn deliver(text: &[u8], out: &mut [u8]) -> Lined
     if out.len() < text.len() {
         return Lined::Short;
     }
-    Lined::Bytes(put(out, 0, text))
+    Lined::Bytes(bytes_at::put(out, 0, text))
 }

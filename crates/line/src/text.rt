@@ -1,30 +1,33 @@
-// Numbers and fields, put at a place of a buffer. Each function answers where the next bytes go.
-ghost use Rattle.std.specs.Prelude.{◌++◌, ◌+◌, ◌≤◌, length};
-ghost use Rattle.jobfile.specs.Lent.{was, is};
+// The text of a line, and what is put behind the text so far: bytes, and fields of a word and a number.
+ghost use Rattle.std.specs.Prelude.{◌≡◌, ◌++◌, ◌+◌, ◌≤◌, length};
+ghost use Rattle.arrayvec.specs.ArrayVec.{array_vec_len};
 ghost use Rattle.line.specs.Text.{digits_of};
-ghost use Rattle.bytes_at.specs.Put.{Put};
 
-use bytes_at::put;
+use arrayvec::ArrayVec;
 
-// A number in decimal.
-// requires: there is room for the 20 digits that the largest has.
-pub fn number(out: &mut [u8], at: usize, n: usize) -> usize
-    requires { at + 20 ≤ length out.old }
-    ensures put { Put (was out) at (digits_of n) result (is out) }
-    ensures upper_bound { result ≤ at + 20 }
+// No line is longer.
+pub type Text = ArrayVec<u8, 256>;
+
+// All of `bytes`.
+// requires: there is room for the bytes.
+pub fn put(text: &mut Text, bytes: &[u8])
+    requires { array_vec_len text.old + length bytes.now ≤ 256 }
+    ensures put { text.new.items ≡ text.old.items ++ bytes.now }
+    ensures count { array_vec_len text.new ≡ array_vec_len text.old + length bytes.now }
 {
-    let mut digits = [0u8; 20];
-    let k = io::decimal(n as u64, &mut digits);
-    put(out, at, &digits[..k])
+    let Ok(()) = text.try_extend_from_slice(bytes) else {
+        unreachable!();
+    };
 }
 
-// A word and a number.
-// requires: there is room for both.
-pub fn field(out: &mut [u8], at: usize, word: &[u8], n: usize) -> usize
-    requires { at + length word.now + 20 ≤ length out.old }
-    ensures put { Put (was out) at (word.now ++ digits_of n) result (is out) }
-    ensures upper_bound { result ≤ at + length word.now + 20 }
+// A word and a number in decimal.
+// requires: there is room for both; the largest number has 20 digits.
+pub fn field(text: &mut Text, word: &[u8], n: usize)
+    requires { array_vec_len text.old + length word.now + 20 ≤ 256 }
+    ensures put { text.new.items ≡ text.old.items ++ (word.now ++ digits_of n) }
+    ensures upper_bound { array_vec_len text.new ≤ array_vec_len text.old + length word.now + 20 }
 {
-    let next = put(out, at, word);
-    number(out, next, n)
+    let mut digits = itoa::Buffer::new();
+    put(text, word);
+    put(text, digits.format(n).as_bytes());
 }

@@ -1,12 +1,15 @@
-// The text of each answer, from the start of a buffer. Each function answers where the next bytes go.
-ghost use Rattle.std.specs.Prelude.{◌+◌, ◌*◌, ◌≤◌, length};
+// The text of each answer, put line by line from the start of a buffer.
+ghost use Rattle.std.specs.Prelude.{◌≡◌, ◌+◌, ◌*◌, ◌≤◌, length};
+ghost use Rattle.arrayvec.specs.ArrayVec.{array_vec_len};
 ghost use Rattle.jobfile.specs.Lent.{was, is};
 ghost use Rattle.bytes_at.specs.Put.{Put};
 ghost use Rattle.per_record.specs.Lists.{lists_of};
 ghost use Rattle.lines.specs.Text.{entry_text, entries_text, raced_text, listed_text, EntriesWithin, AnswerWithin};
 
 use bytes_at::put;
+use line::Text;
 use per_record::Answer;
+use races::wide;
 
 // The text of an answer, for the event part and the name of the file and the lists that came with the answer.
 // requires: there is room for the longest text, and the entries of the raced records and the events of each are there.
@@ -32,34 +35,28 @@ pub fn answer(
             hebrew,
         } => {
             if raced == 0 {
-                return line::clean(out, strands, english, hebrew, name);
+                return put(out, 0, &line::clean(strands, english, hebrew, name));
             }
             let at = entries(out, events, records, firsts, seconds, raced);
-            last(out, at, raced, strands, english, hebrew, name)
+            put(out, at, &last(raced, strands, english, hebrew, name))
         }
-        Answer::Refused(r) => line::refusal(out, r),
+        Answer::Refused(r) => put(out, 0, &line::refusal(r)),
     }
 }
 
 // The line of one raced record.
-// requires: there is room for its 97 bytes, and both events are there.
-fn entry(
-    out: &mut [u8],
-    at: usize,
-    events: &[u8],
-    number: usize,
-    first: usize,
-    second: usize,
-) -> usize
-    requires at_in_bounds { at + 97 ≤ length out.old }
+// requires: both events are there.
+fn entry(events: &[u8], number: usize, first: usize, second: usize) -> Text
     requires first_in_bounds { 4 * first + 4 ≤ length events.now }
     requires second_in_bounds { 4 * second + 4 ≤ length events.now }
-    ensures put { Put (was out) at (entry_text events.now number first second) result (is out) }
-    ensures upper_bound { result ≤ at + 97 }
+    ensures value { result.items ≡ entry_text events.now number first second }
+    ensures upper_bound { array_vec_len result ≤ 97 }
 {
-    let a = line::pair(out, at, number, first, second);
-    let b = line::kinds(out, a, events, first, second);
-    put(out, b, b"\n")
+    let mut text = Text::new();
+    line::pair(&mut text, number, first, second);
+    line::kinds(&mut text, events, first, second);
+    line::put(&mut text, b"\n");
+    text
 }
 
 // The lines of the first n entries of the lists.
@@ -80,14 +77,8 @@ fn entries(
     let mut at = 0;
     let mut i = 0;
     while i < n {
-        at = entry(
-            out,
-            at,
-            events,
-            records[i] as usize,
-            firsts[i] as usize,
-            seconds[i] as usize,
-        );
+        let line = entry(events, wide(records[i]), wide(firsts[i]), wide(seconds[i]));
+        at = put(out, at, &line);
         i += 1;
     }
     at
@@ -95,20 +86,14 @@ fn entries(
 
 // The last line, behind those of the records.
 // requires: there is room for the name and 119 bytes more.
-fn last(
-    out: &mut [u8],
-    at: usize,
-    raced: usize,
-    strands: usize,
-    english: usize,
-    hebrew: usize,
-    name: &[u8],
-) -> usize
-    requires { at + length name.now + 119 ≤ length out.old }
-    ensures put { Put (was out) at (raced_text raced strands english hebrew name.now) result (is out) }
-    ensures upper_bound { result ≤ at + length name.now + 119 }
+fn last(raced: usize, strands: usize, english: usize, hebrew: usize, name: &[u8]) -> Text
+    requires { length name.now + 119 ≤ 256 }
+    ensures value { result.items ≡ raced_text raced strands english hebrew name.now }
+    ensures upper_bound { array_vec_len result ≤ length name.now + 119 }
 {
-    let a = line::field(out, at, b"raced ", raced);
-    let b = line::counts(out, a, strands, english, hebrew);
-    line::ending(out, b, name)
+    let mut text = Text::new();
+    line::field(&mut text, b"raced ", raced);
+    line::counts(&mut text, strands, english, hebrew);
+    line::ending(&mut text, name);
+    text
 }

@@ -14,6 +14,7 @@ ghost use Rattle.taking.specs.Buffers.{before, after};
 ghost use Rattle.per_record.specs.Lists.{lists_before, lists_after};
 ghost use Rattle.lines.specs.Lines.{LinesFit, LinesGives, TextGives};
 
+use bytes_at::put;
 use jobfile::{Checked, Job};
 use limits::RECORDS;
 use line::Lined;
@@ -59,7 +60,7 @@ fn text_of(
     ensures { TextGives input.now (before labels links places) (lists_before records firsts seconds) (was out) result (after labels links places) (lists_after records firsts seconds) (is out) }
 {
     match jobfile::check(input) {
-        Checked::Refused(r) => line::refusal(out, r),
+        Checked::Refused(r) => put(out, 0, &line::refusal(r)),
         Checked::Accepted(job) => judged(
             out, input, job, labels, links, places, records, firsts, seconds,
         ),

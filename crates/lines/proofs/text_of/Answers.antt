@@ -11,6 +11,6 @@ pub returns-in-Refused : goal.returns-in-Refused
 returns-in-Refused c =
     let refused = sym c.check.ensures.answer ∙ c.in-Refused.is in
     record {
-      text = refused_text _ _ _ _ refused _ _ _ c.refusal.ensures.put;
+      text = refused_text _ _ _ _ refused _ _ _ (rw (c.deref.ensures.0 ∙ c.refusal.ensures) at c.put.ensures);
       leaves = leaves_none _ _ _ _ refused;
     }

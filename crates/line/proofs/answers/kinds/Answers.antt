@@ -1,13 +1,10 @@
 -- `kinds` meets its contract: the letters of both events behind the word. Assumes nothing.
-use mathlib.Core.Path.{ap, ◌∙◌}
-use Rattle.jobfile.specs.Events.{access_of}
+use mathlib.Core.List.{append_assoc}
+use mathlib.Core.Path.{refl}
 use Rattle.line.specs.Text.{kinds_text}
-use Rattle.bytes_at.proofs.Puts.{put_put}
 use Rattle.line.proofs.answers.kinds.Goals as goal
 
 pub returns-clause-put : goal.returns-clause-put
 unfolding kinds_text
 returns-clause-put c =
-    let a = c.access_of-a.ensures ∙ ap access_of c.event_at.ensures in
-    let b = c.access_of-b.ensures ∙ ap access_of c.event_at-2.ensures in
-    put_put c.put-word.ensures (put_put (rw a at c.letter-one.ensures.put) (rw b at c.letter.ensures.put))
+    rw (c.put-3.ensures.put, c.put-2.ensures.put, c.put.ensures.put, c.letter.ensures.value, c.letter-2.ensures.value) (rw (c.access_of-a.ensures, c.access_of-b.ensures, c.event_at.ensures, c.event_at-2.ensures) (simp append_assoc refl))

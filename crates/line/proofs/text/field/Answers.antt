@@ -1,7 +1,9 @@
--- `field` meets its contract: the number is put behind the word. Assumes nothing.
-use Rattle.bytes_at.proofs.Puts.{put_put}
+-- `field` meets its contract: what is put behind the word is the number as the standard library prints it. Assumes nothing.
+use native.Mathlib.Omega.{arith}
+use mathlib.Core.List.{append_assoc}
+use Rattle.line.proofs.Digits.{printed}
 use Rattle.line.proofs.text.field.Goals as goal
 
 pub returns-clause-put : goal.returns-clause-put
 returns-clause-put c =
-    put_put c.put-next.ensures c.number.ensures.put
+    rw (← printed c.args.n (omega arith), ← append_assoc) cc

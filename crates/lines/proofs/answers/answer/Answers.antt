@@ -1,12 +1,15 @@
 -- `answer` meets its contract: each arm puts the text of its case, and the test says whether anything is raced. Assumes nothing.
 use native.Mathlib.Omega.{arith}
+use mathlib.Core.Path.{ap, ◌∙◌}
+use lib.ListN.{length}
 use Rattle.bytes_at.proofs.Puts.{put_put}
 use Rattle.lines.proofs.Told.{clean_told, raced_told}
 use Rattle.lines.proofs.answers.answer.Goals as goal
 
 pub returns-then-raced-eq0 : goal.returns-then-raced-eq0
 returns-then-raced-eq0 c =
-    rw (c.in-Judged.is, ← clean_told _ _ _ _ _ _ c.if-raced-eq0.true) c.clean.ensures.put
+    let line = rw (c.deref.ensures.0 ∙ c.clean.ensures) at c.put.ensures in
+    rw (c.in-Judged.is, ← clean_told _ _ _ _ _ _ c.if-raced-eq0.true) line
 
 pub entries-at-requires-clause-n_in_bounds : goal.entries-at-requires-clause-n_in_bounds
 entries-at-requires-clause-n_in_bounds c =
@@ -16,15 +19,16 @@ pub entries-at-requires-clause-entries_within : goal.entries-at-requires-clause-
 entries-at-requires-clause-entries_within c =
     let within = rw c.in-Judged.is at c.requires.answer_within in within.1
 
-pub last-requires : goal.last-requires
-last-requires c =
+pub put-requires-in-Judged : goal.put-requires-in-Judged
+put-requires-in-Judged c =
     let within = rw c.in-Judged.is at c.requires.answer_within in
-    omega (arith, within.0, c.entries-at.ensures.upper_bound)
+    omega (arith, within.0, c.entries-at.ensures.upper_bound, ap length c.deref-in-Judged.ensures.0)
 
 pub returns-else-raced-eq0 : goal.returns-else-raced-eq0
 returns-else-raced-eq0 c =
-    rw (c.in-Judged.is, ← raced_told _ _ _ _ _ _ c.if-raced-eq0.false) (put_put c.entries-at.ensures.put c.last.ensures.put)
+    let line = rw (c.deref-in-Judged.ensures.0 ∙ c.last.ensures.value) at c.put-in-Judged.ensures in
+    rw (c.in-Judged.is, ← raced_told _ _ _ _ _ _ c.if-raced-eq0.false) (put_put c.entries-at.ensures.put line)
 
 pub returns-in-Refused : goal.returns-in-Refused
 returns-in-Refused c =
-    rw c.in-Refused.is c.refusal.ensures.put
+    let line = rw (c.deref-in-Refused.ensures.0 ∙ c.refusal.ensures) at c.put-in-Refused.ensures in rw c.in-Refused.is line
