@@ -5,7 +5,7 @@
 ghost use Rattle.std.specs.Prelude.{◌≡◌, ◌+◌, ◌*◌, ◌<◌, ◌≤◌, length};
 ghost use Rattle.jobfile.specs.Lent.{was};
 ghost use Rattle.strands.specs.Memory.{tasks};
-ghost use Rattle.taking.specs.Buffers.{buffers};
+ghost use Rattle.taking.specs.WorkBuffers.{lists_in, SameReferences};
 ghost use Rattle.taking.specs.Asking.{held_or, label_above, clashing_of};
 ghost use Rattle.taking.specs.Turns.{Turnable, Taken, Runnable, WentFrom, Findable, FirstFound};
 ghost use Rattle.races.specs.Trace.{record_of};
@@ -16,6 +16,14 @@ use jobfile::{Access, Kind};
 use limits::{HEBREW_LABELS, ITS_STRAND, OPEN_TASKS, STANDING_READS, STRANDS};
 use races::wide;
 use strands::Now;
+
+// The three work buffers, as they are lent.
+#[derive(Drop)]
+pub struct WorkBuffers<'a> {
+    pub labels: &'a mut [u64],
+    pub links: &'a mut [u16],
+    pub places: &'a mut [u32],
+}
 
 // What one event leads to: the next state; or it is the second access of a race, and nothing is stored.
 #[derive(Clone, Copy)]
@@ -49,28 +57,18 @@ pub fn until_race(
     begun: Now,
     lasts: &mut [usize; OPEN_TASKS],
     joins: &mut [usize; OPEN_TASKS],
-    labels: &mut [u64],
-    links: &mut [u16],
-    places: &mut [u32],
+    buffers: &mut WorkBuffers,
 ) -> Reach
-    requires { Runnable part.now from to (buffers labels links places) (tasks lasts joins) begun }
-    ensures { WentFrom part.now from to begun lasts joins labels links places result }
+    requires { Runnable part.now from to (lists_in buffers.old) (tasks lasts joins) begun }
+    ensures same_references { SameReferences buffers.old buffers.new }
+    ensures went { WentFrom part.now from to begun lasts joins (lists_in buffers.old) (lists_in buffers.new) result }
 {
     let mut state = begun;
     let mut i = from;
     let mut own_lasts = *lasts;
     let mut own_joins = *joins;
     while i < to {
-        match take(
-            part,
-            i,
-            state,
-            &mut own_lasts,
-            &mut own_joins,
-            labels,
-            links,
-            places,
-        ) {
+        match take(part, i, state, &mut own_lasts, &mut own_joins, buffers) {
             Turn::Raced => {
                 *lasts = own_lasts;
                 *joins = own_joins;
@@ -97,46 +95,49 @@ fn take(
     state: Now,
     lasts: &mut [usize; OPEN_TASKS],
     joins: &mut [usize; OPEN_TASKS],
-    labels: &mut [u64],
-    links: &mut [u16],
-    places: &mut [u32],
+    buffers: &mut WorkBuffers,
 ) -> Turn
-    requires { Turnable part.now i (buffers labels links places) (tasks lasts joins) state }
-    ensures { Taken part.now i state lasts joins labels links places result }
+    requires { Turnable part.now i (lists_in buffers.old) (tasks lasts joins) state }
+    ensures same_references { SameReferences buffers.old buffers.new }
+    ensures taken { Taken part.now i state lasts joins (lists_in buffers.old) (lists_in buffers.new) result }
 {
     let e = jobfile::event_at(part, i);
     match jobfile::access_of(e) {
         Access::To { kind, record } => {
             let r = record as usize;
             let strand = state.strands - 1;
-            let wrote = held_or(wide(places[r + ITS_STRAND]), strand);
-            if above(labels, strand, wrote) {
+            let wrote = held_or(wide(buffers.places[r + ITS_STRAND]), strand);
+            if above(buffers, strand, wrote) {
                 return Turn::Raced;
             }
-            let read = held_or(wide(places[STANDING_READS + r + ITS_STRAND]), strand);
-            if above(labels, strand, clashing(kind, read, strand)) {
+            let read = held_or(
+                wide(buffers.places[STANDING_READS + r + ITS_STRAND]),
+                strand,
+            );
+            if above(buffers, strand, clashing(kind, read, strand)) {
                 return Turn::Raced;
             }
-            races::access(places, kind, r, i, strand, above(labels, strand, read));
+            let stood = above(buffers, strand, read);
+            races::access(buffers.places, kind, r, i, strand, stood);
             Turn::Go(state)
         }
         Access::None => {
             let m = jobfile::move_of(e);
-            Turn::Go(strands::advance(m, state, lasts, joins, labels, links))
+            Turn::Go(strands::advance(m, state, lasts, joins, buffers.labels, buffers.links))
         }
     }
 }
 
 // The place that holds the first of the race whose second is event i.
 // requires: the state is that before event i, which races, as `until_race` leaves it.
-pub fn find(part: &[u8], i: usize, state: Now, labels: &[u64], places: &[u32]) -> Found
-    requires { Findable part.now i labels.now places.now state }
+pub fn find(part: &[u8], i: usize, state: Now, buffers: &WorkBuffers) -> Found
+    requires { Findable part.now i buffers.now.labels.now buffers.now.places.now state }
     ensures { FirstFound part.now i result }
 {
     let record = record_at(part, i);
     let strand = state.strands - 1;
-    let wrote = held_or(wide(places[record + ITS_STRAND]), strand);
-    if above(labels, strand, wrote) {
+    let wrote = held_or(wide(buffers.places[record + ITS_STRAND]), strand);
+    if above(buffers, strand, wrote) {
         return Found {
             kind: Kind::Write,
             record,
@@ -172,11 +173,11 @@ fn clashing(kind: Kind, read: usize, strand: usize) -> usize
 }
 
 // Whether strand `other` is parallel to `strand`, the current one: its Hebrew label is above.
-fn above(labels: &[u64], strand: usize, other: usize) -> bool
-    requires { (8192 ≤ length labels.now) × (strand < 4096) × (other < 4096) }
-    ensures { result ≡ label_above labels.now strand other }
+fn above(buffers: &WorkBuffers, strand: usize, other: usize) -> bool
+    requires { (8192 ≤ length buffers.now.labels.now) × (strand < 4096) × (other < 4096) }
+    ensures { result ≡ label_above buffers.now.labels.now strand other }
 {
-    labels[HEBREW_LABELS + strand] < labels[HEBREW_LABELS + other]
+    buffers.labels[HEBREW_LABELS + strand] < buffers.labels[HEBREW_LABELS + other]
 }
 
 // The strand that a place holds, or `strand` where that is none. The machine picks one without a branch: which places are empty
