@@ -16,8 +16,7 @@ use Rattle.races.specs.Mark.{rank, rules, layout, event_trace}
 use Rattle.races.specs.Records.{raced}
 use Rattle.races.proofs.Search.{least_kept}
 use Rattle.races.proofs.Shown.{shown_unique}
-use Rattle.taking.specs.declared.Turn.{Turn}
-use Rattle.taking.specs.declared.Turn.TheVariants.{Go, Raced}
+use Rattle.std.specs.Prelude.{Option, None, Some}
 use Rattle.taking.specs.declared.Reach.{Reach}
 use Rattle.taking.specs.declared.Found.{Found}
 use Rattle.taking.specs.Buffers.{Buffers, orders_in}
@@ -34,11 +33,11 @@ buffers_once B B' o p = listed (ap (λ M. M.labels) o) (ap (λ M. M.links) o) p
     listed l k p = rw (l, k, p)
 
 -- what two turns say alike: a race both, or the same numbers
-abbrev pub SameTurn : Turn → Turn → Type 0
-SameTurn (Go next) (Go next') = SameNumbers next next'
-SameTurn Raced Raced = Unit {0}
-SameTurn (Go next) Raced = ⊥
-SameTurn Raced (Go next) = ⊥
+abbrev pub SameTurn : Option Now → Option Now → Type 0
+SameTurn (Some next) (Some next') = SameNumbers next next'
+SameTurn None None = Unit {0}
+SameTurn (Some next) None = ⊥
+SameTurn None (Some next) = ⊥
 
 module _ {part : List ℕ} {records : ℕ} {B₀ B B' : Buffers} {T T' : OpenTasks} {now now' : Now} {i : ℕ} (root : Rooted (moves (event_at part)) i)
     (S : Midway part records B₀ B T now i) (S' : Midway part records B₀ B' T' now' i) where
@@ -54,7 +53,7 @@ not_both part i still W =
     false≢true (sym (ap given z))
 
 -- what `take` gives, where it may be called
-pub taken_once : (part : List ℕ) (i : ℕ) (B : Buffers) (T : OpenTasks) (now : Now) (B' B'' : Buffers) (T' T'' : OpenTasks) (turn turn' : Turn)
+pub taken_once : (part : List ℕ) (i : ℕ) (B : Buffers) (T : OpenTasks) (now : Now) (B' B'' : Buffers) (T' T'' : OpenTasks) (turn turn' : Option Now)
     → Turnable part i B T now → Turns part i B T now B' T' turn → Turns part i B T now B'' T'' turn'
     → (B' ≡ B'') × (T' ≡ T'') × SameTurn turn turn'
 taken_once part i B T now B' B'' T' T'' turn turn' A X Y =
@@ -63,13 +62,13 @@ taken_once part i B T now B' B'' T' T'' turn turn' A X Y =
     (Y.turned A.records A.k A.B₀ A.run A.next A.midway A.fresh) in
     (same.0, X.tasks_are ∙ sym Y.tasks_are, same.1)
   where
-    by : (t t' : Turn) → Turned part i A.records A.B₀ B B' T' t → Turned part i A.records A.B₀ B B'' T'' t' → (B' ≡ B'') × SameTurn t t'
-    by (Go next) (Go next') U W =
+    by : (t t' : Option Now) → Turned part i A.records A.B₀ B B' T' t → Turned part i A.records A.B₀ B B'' T'' t' → (B' ≡ B'') × SameTurn t t'
+    by (Some next) (Some next') U W =
         let root = run_rooted A.run (suc i) A.next in
         (midway_once root U.0 W.0, reached_numbers root U.0.reached W.0.reached)
-    by Raced Raced U W = (U.0 ∙ sym W.0, tt)
-    by (Go next) Raced U W = absurd (not_both part i U.1 W.1)
-    by Raced (Go next) U W = absurd (not_both part i W.1 U.1)
+    by None None U W = (U.0 ∙ sym W.0, tt)
+    by (Some next) None U W = absurd (not_both part i U.1 W.1)
+    by None (Some next) U W = absurd (not_both part i W.1 U.1)
 
 -- how far two runs go alike, and their numbers
 abbrev pub SameReach : Reach → Reach → Type 0

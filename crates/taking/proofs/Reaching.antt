@@ -12,7 +12,7 @@ use Rattle.strands.specs.declared.Now.{Now}
 use Rattle.strands.proofs.Advanced.{place_deep}
 use Rattle.taking.specs.Buffers.{Buffers, orders_in}
 use Rattle.taking.specs.Turns.{Midway, Still, Fresh, Races, Turnable, Turns, Runs, Runnable, tasks_over, Reaches}
-use Rattle.taking.specs.declared.Turn.TheVariants.{Go, Raced}
+use Rattle.std.specs.Prelude.{None, Some}
 use Rattle.taking.proofs.Turned.{taken}
 
 -- before event i of such a run
@@ -65,7 +65,7 @@ module _ {part : List ℕ} {from to : ℕ} {B B' : Buffers} {T T' : OpenTasks} {
     its_turn = let s = stands A.records A.k A.B₀ A.runs in turnable A.runs onward before s.0 s.1
 
     -- event i races
-    pub ends_race : {B'' : Buffers} {T'' : OpenTasks} → Turns part i B' T' next B'' T'' Raced → Reaches part from to B T now B'' T'' (record { at = i; state = next })
+    pub ends_race : {B'' : Buffers} {T'' : OpenTasks} → Turns part i B' T' next B'' T'' None → Reaches part from to B T now B'' T'' (record { at = i; state = next })
     ends_race {T'' = T''} turns = record {
       went = λ records k B₀ R.
           let s = stands records k B₀ R in
@@ -81,7 +81,7 @@ module _ {part : List ℕ} {from to : ℕ} {B B' : Buffers} {T T' : OpenTasks} {
         left = turns.tasks_are ∙ rw (access_stays (event_at part i) raced.kind raced.number raced.is_an_access)
 
     -- it does not
-    pub goes_on : {B'' : Buffers} {T'' : OpenTasks} (more : Now) → Turns part i B' T' next B'' T'' (Go more)
+    pub goes_on : {B'' : Buffers} {T'' : OpenTasks} (more : Now) → Turns part i B' T' next B'' T'' (Some more)
         → Stands part from to B T now B'' T'' more (suc i) × (T'' ≡ tasks_over (moves (event_at part)) from (suc i - from) T)
     goes_on {T'' = T''} more turns = (
       λ records k B₀ R.

@@ -16,7 +16,7 @@ use Rattle.jobfile.specs.declared.event.Kind.{Kind}
 use Rattle.jobfile.specs.declared.event.Kind.TheVariants.{Write, Read}
 use Rattle.jobfile.specs.declared.event.Move.{Move}
 use Rattle.jobfile.specs.declared.event.Move.TheVariants.{Stays}
-use Rattle.std.specs.Prelude.{Option, None, Some}
+use Rattle.std.specs.Prelude.{None, Some}
 use Rattle.jobfile.specs.Events.{access_to}
 use Rattle.jobfile.proofs.Accesses.{access_stays}
 use Rattle.relation.proofs.Strand.{begun_some}
@@ -35,7 +35,7 @@ use Rattle.races.proofs.Accesses.{same_or_not, names_class, names_first, names_n
 use Rattle.races.proofs.Shown.{shown_other, shown_frozen, shown_racing, second_raced, second_clean, second_frozen, second_elsewhere}
 use Rattle.races.proofs.Mark.{none_told, read_none, last_write_named, standing_read_named}
 use Rattle.races.proofs.Events.{lawful, fit}
-use Rattle.taking.specs.declared.Turn.TheVariants.{Go, Raced}
+use Rattle.std.specs.Prelude.{None, Some}
 use Rattle.taking.specs.Buffers.{Buffers, orders_in}
 use Rattle.taking.specs.Asking.{held_or, label_above, held_above, clashing_of}
 use Rattle.taking.specs.Turns.{Run, Midway, Still, Races, Turnable, Turns}
@@ -193,7 +193,7 @@ module _ {part : List ℕ} {i : ℕ} {B : Buffers} {T : OpenTasks} {now : Now} (
     tasks_stay = rw (access_stays (event_at part i) kind r to_record)
 
     -- the last write is parallel
-    pub turns_written : true ≡ held_above B.labels B.places r (now.strands - 1) → Turns part i B T now B T Raced
+    pub turns_written : true ≡ held_above B.labels B.places r (now.strands - 1) → Turns part i B T now B T None
     turns_written w = record {
       turned = λ records k B₀ R h S F. (refl, written_races R h S r (F kind r to_record) kind to_record w);
       tasks_are = tasks_stay;
@@ -202,7 +202,7 @@ module _ {part : List ℕ} {i : ℕ} {B : Buffers} {T : OpenTasks} {now : Now} (
     module _ (w : false ≡ held_above B.labels B.places r (now.strands - 1)) where
       -- the standing read is, and this is a write
       pub turns_read : true ≡ label_above B.labels (now.strands - 1) (clashing_of kind (held_or (get_or B.places (8192 + r + 4096) 0) (now.strands - 1)) (now.strands - 1))
-          → Turns part i B T now B T Raced
+          → Turns part i B T now B T None
       turns_read s = record {
         turned = λ records k B₀ R h S F. (refl, by kind to_record s R h S (F kind r to_record));
         tasks_are = tasks_stay;
@@ -238,7 +238,7 @@ module _ {part : List ℕ} {i : ℕ} {B : Buffers} {T : OpenTasks} {now : Now} (
         }
 
         pub turns_accessed : (P' : List ℕ) → Accessed rules layout (two false stood) B.places r (rank kind) i (now.strands - 1) P'
-            → Turns part i B T now (placed B P') T (Go now)
+            → Turns part i B T now (placed B P') T (Some now)
         turns_accessed P' accessed = record {
           turned = λ records k B₀ R h S F.
               let unraced = F kind r to_record in (
@@ -267,7 +267,7 @@ module _ {part : List ℕ} {i : ℕ} {B : Buffers} {T : OpenTasks} {now : Now} (
     }
 
     pub turns_moved : (L' K' : List ℕ) (T' : OpenTasks) (next : Now) → Advances (orders_in B) T now m (record { labels = L'; links = K' }) T' next
-        → Turns part i B T now (moved B L' K') T' (Go next)
+        → Turns part i B T now (moved B L' K') T' (Some next)
     turns_moved L' K' T' next advances =
         let A = rw its_move at advances in
         record {

@@ -1,3 +1,4 @@
 pub mod Buffers
 pub mod Asking
 pub mod Turns
+pub mod WorkBuffers

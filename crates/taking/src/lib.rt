@@ -3,24 +3,23 @@
 #![tactic(auto)]
 
 ghost use Rattle.std.specs.Prelude.{◌≡◌, ◌+◌, ◌*◌, ◌<◌, ◌≤◌, length};
-ghost use Rattle.jobfile.specs.Lent.{was};
-ghost use Rattle.strands.specs.Memory.{tasks};
-ghost use Rattle.taking.specs.Buffers.{buffers};
+ghost use Rattle.taking.specs.WorkBuffers.{lists_in, SameReferences};
 ghost use Rattle.taking.specs.Asking.{held_or, label_above, clashing_of};
 ghost use Rattle.taking.specs.Turns.{Turnable, Taken, Runnable, WentFrom, Findable, FirstFound};
 ghost use Rattle.races.specs.Trace.{record_of};
 ghost use Rattle.races.specs.Mark.{event_trace};
 ghost use Rattle.jobfile.specs.Trace.{event_at};
 
-use jobfile::{Access, Kind};
+use jobfile::Kind;
 use limits::{HEBREW_LABELS, ITS_STRAND, OPEN_TASKS, STANDING_READS, STRANDS};
-use strands::Now;
+use strands::{Now, OpenTask};
 
-// What one event leads to: the next state; or it is the second access of a race, and nothing is stored.
-#[derive(Clone, Copy)]
-pub enum Turn {
-    Go(Now),
-    Raced,
+// The three work buffers, as they are lent.
+#[derive(Drop)]
+pub struct WorkBuffers<'a> {
+    pub labels: &'a mut [u64],
+    pub links: &'a mut [u16],
+    pub places: &'a mut [u32],
 }
 
 // How far a run went: event `at` is next, and this is the state before it.
@@ -37,8 +36,8 @@ pub struct Found {
     pub record: usize,
 }
 
-// Runs from event `from` to event `to`, or to the first event on the way that races. The arrays of the open tasks are copied, so that the
-// machine finds them at fixed places.
+// Runs from event `from` to event `to`, or to the first event on the way that races. The open tasks are copied, so that the machine finds
+// them at fixed places.
 // requires: the state is that of a run in which event `from` is next, and none of the events is an access of a record that has raced, which
 // only the calls before this one can show.
 pub fn until_race(
@@ -46,96 +45,81 @@ pub fn until_race(
     from: usize,
     to: usize,
     begun: Now,
-    lasts: &mut [usize; OPEN_TASKS],
-    joins: &mut [usize; OPEN_TASKS],
-    labels: &mut [u64],
-    links: &mut [u16],
-    places: &mut [u32],
+    tasks: &mut [OpenTask; OPEN_TASKS],
+    buffers: &mut WorkBuffers,
 ) -> Reach
-    requires { Runnable part.now from to (buffers labels links places) (tasks lasts joins) begun }
-    ensures { WentFrom part.now from to begun lasts joins labels links places result }
+    requires { Runnable part.now from to (lists_in buffers.old) tasks.old begun }
+    ensures same_references { SameReferences buffers.old buffers.new }
+    ensures went { WentFrom part.now from to begun tasks (lists_in buffers.old) (lists_in buffers.new) result }
 {
     let mut state = begun;
-    let mut i = from;
-    let mut own_lasts = *lasts;
-    let mut own_joins = *joins;
-    while i < to {
-        match take(
-            part,
-            i,
-            state,
-            &mut own_lasts,
-            &mut own_joins,
-            labels,
-            links,
-            places,
-        ) {
-            Turn::Raced => {
-                *lasts = own_lasts;
-                *joins = own_joins;
-                return Reach { at: i, state };
-            }
-            Turn::Go(next) => {
-                state = next;
+    let mut own = *tasks;
+    for at in from..to {
+        match take(part, at, state, &mut own, buffers) {
+            Some(next) => state = next,
+            None => {
+                *tasks = own;
+                return Reach { at, state };
             }
         }
-        i += 1;
     }
-    *lasts = own_lasts;
-    *joins = own_joins;
-    Reach { at: i, state }
+    *tasks = own;
+    Reach { at: to, state }
 }
 
-// Event i: an access that finds the first of a race at its record's places, or goes into one of them; any other event moves, and may begin
-// a strand. An access does not move.
+// Event i: an access that goes into one of its record's places, or another event, which moves and may begin a strand; the next state. None
+// if it is the second access of a race: it finds the first at its record's places, and nothing is stored. An access does not move.
 // requires: the state is that of a run in which this event is next, and its record has not raced, which only the calls before this one can
 // show.
 fn take(
     part: &[u8],
     i: usize,
     state: Now,
-    lasts: &mut [usize; OPEN_TASKS],
-    joins: &mut [usize; OPEN_TASKS],
-    labels: &mut [u64],
-    links: &mut [u16],
-    places: &mut [u32],
-) -> Turn
-    requires { Turnable part.now i (buffers labels links places) (tasks lasts joins) state }
-    ensures { Taken part.now i state lasts joins labels links places result }
+    tasks: &mut [OpenTask; OPEN_TASKS],
+    buffers: &mut WorkBuffers,
+) -> Option<Now>
+    requires { Turnable part.now i (lists_in buffers.old) tasks.old state }
+    ensures same_references { SameReferences buffers.old buffers.new }
+    ensures taken { Taken part.now i state tasks (lists_in buffers.old) (lists_in buffers.new) result }
 {
     let e = jobfile::event_at(part, i);
     match jobfile::access_of(e) {
-        Access::To { kind, record } => {
-            let r = record as usize;
+        Some(access) => {
+            let kind = access.kind;
+            let r = access.record as usize;
             let strand = state.strands - 1;
-            let wrote = held_or(places[r + ITS_STRAND] as usize, strand);
-            if above(labels, strand, wrote) {
-                return Turn::Raced;
+            let wrote = held_or(buffers.places[r + ITS_STRAND] as usize, strand);
+            if above(buffers, strand, wrote) {
+                return None;
             }
-            let read = held_or(places[STANDING_READS + r + ITS_STRAND] as usize, strand);
-            if above(labels, strand, clashing(kind, read, strand)) {
-                return Turn::Raced;
+            let read = held_or(
+                buffers.places[STANDING_READS + r + ITS_STRAND] as usize,
+                strand,
+            );
+            if above(buffers, strand, clashing(kind, read, strand)) {
+                return None;
             }
-            races::access(places, kind, r, i, strand, above(labels, strand, read));
-            Turn::Go(state)
+            let stood = above(buffers, strand, read);
+            races::access(buffers.places, kind, r, i, strand, stood);
+            Some(state)
         }
-        Access::None => {
+        None => {
             let m = jobfile::move_of(e);
-            Turn::Go(strands::advance(m, state, lasts, joins, labels, links))
+            Some(strands::advance(m, state, tasks, buffers.labels, buffers.links))
         }
     }
 }
 
 // The place that holds the first of the race whose second is event i.
 // requires: the state is that before event i, which races, as `until_race` leaves it.
-pub fn find(part: &[u8], i: usize, state: Now, labels: &[u64], places: &[u32]) -> Found
-    requires { Findable part.now i labels.now places.now state }
+pub fn find(part: &[u8], i: usize, state: Now, buffers: &WorkBuffers) -> Found
+    requires { Findable part.now i buffers.now.labels.now buffers.now.places.now state }
     ensures { FirstFound part.now i result }
 {
     let record = record_at(part, i);
     let strand = state.strands - 1;
-    let wrote = held_or(places[record + ITS_STRAND] as usize, strand);
-    if above(labels, strand, wrote) {
+    let wrote = held_or(buffers.places[record + ITS_STRAND] as usize, strand);
+    if above(buffers, strand, wrote) {
         return Found {
             kind: Kind::Write,
             record,
@@ -153,8 +137,8 @@ fn record_at(part: &[u8], i: usize) -> usize
     ensures { result ≡ record_of ((event_trace (event_at part.now)).act i) }
 {
     match jobfile::access_of(jobfile::event_at(part, i)) {
-        Access::To { kind: _, record } => record as usize,
-        Access::None => 0,
+        Some(access) => access.record as usize,
+        None => 0,
     }
 }
 
@@ -171,11 +155,11 @@ fn clashing(kind: Kind, read: usize, strand: usize) -> usize
 }
 
 // Whether strand `other` is parallel to `strand`, the current one: its Hebrew label is above.
-fn above(labels: &[u64], strand: usize, other: usize) -> bool
-    requires { (8192 ≤ length labels.now) × (strand < 4096) × (other < 4096) }
-    ensures { result ≡ label_above labels.now strand other }
+fn above(buffers: &WorkBuffers, strand: usize, other: usize) -> bool
+    requires { (8192 ≤ length buffers.now.labels.now) × (strand < 4096) × (other < 4096) }
+    ensures { result ≡ label_above buffers.now.labels.now strand other }
 {
-    labels[HEBREW_LABELS + strand] < labels[HEBREW_LABELS + other]
+    buffers.labels[HEBREW_LABELS + strand] < buffers.labels[HEBREW_LABELS + other]
 }
 
 // The strand that a place holds, or `strand` where that is none. The machine picks one without a branch: which places are empty

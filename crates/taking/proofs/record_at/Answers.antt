@@ -2,9 +2,9 @@
 use mathlib.Core.Path.{refl}
 use Rattle.taking.proofs.record_at.Goals as goal
 
-pub returns-in-To : goal.returns-in-To
-returns-in-To c =
-    rw (← c.event_at.ensures, ← c.access_of.ensures, c.in-To.is) refl
+pub returns-in-Some : goal.returns-in-Some
+returns-in-Some c =
+    rw (← c.event_at.ensures, ← c.access_of.ensures, c.in-Some.is) refl
 
 pub returns-in-None : goal.returns-in-None
 returns-in-None c =
