@@ -5,6 +5,8 @@ use contract.Lifetimes.{Lfts}
 use denote.Triple.Clauses.{AtExit}
 use borrow.Fn.Kinds.{Dens, ended_of}
 use Rattle.taking.specs.Buffers.{buffers}
+use Rattle.std.specs.Prelude.{Result, Ok, Err}
+use Rattle.jobfile.specs.declared.refusal.Refusal.{Refusal}
 use Rattle.judging.specs.declared.Answer.{Answer}
 use Rattle.judging.specs.Gives.{JudgeGives}
 use Rattle.judging.proofs.judge.Kinds as kinds
@@ -22,7 +24,7 @@ module _ (κs : Lfts 4) (a : Dens κs kinds.ps) where
   judge_asks = refl
 
   -- a: the arguments, s: what is left in what was lent
-  pub judge_promises : (r : Answer) (s : AtExit (ended_of 4 kinds.ps kinds.r) κs)
+  pub judge_promises : (r : Result Answer Refusal) (s : AtExit (ended_of 4 kinds.ps kinds.r) κs)
       → judge.Post κs a r s
       ≡ JudgeGives a.0.now a.1.0 (buffers a.1.1.0 a.1.1.1.0 a.1.1.1.1.0)
       r (buffers s.1.1.0 s.1.1.1.0 s.1.1.1.1.0)
