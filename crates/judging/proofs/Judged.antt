@@ -16,7 +16,7 @@ use Rattle.races.specs.Named.{Named}
 use Rattle.races.specs.Verdict.{verdict, stop_at}
 use Rattle.races.proofs.Named.{verdict_race, verdict_clean, named_only, stop_race, stop_clean}
 use Rattle.taking.specs.Buffers.{Buffers}
-use Rattle.std.specs.Prelude.{Result, Ok, Err}
+use Rattle.std.specs.Prelude.{Result, Ok}
 use Rattle.jobfile.specs.declared.refusal.Refusal.{Refusal}
 use Rattle.judging.specs.declared.Answer.{Answer}
 use Rattle.judging.specs.Answers.{answer_with, judged_of, judgeable, judge_of, judge_with}
@@ -60,13 +60,13 @@ module _ (file : List ℕ) (k : ℕ) (B₀ : Buffers) (T : Judgeable file k B₀
   pub few : (n : ℕ) → n ≤ k → begun_at (moves_in file) n ≤ 4096
   few n h = accepted_events.few n (omega (arith, T.within))
 
-  pub no_fault : judgeable T.job.events T.job.strands k (length B₀.labels) (length B₀.links) (length B₀.places) ≡ 0
+  pub no_fault : judgeable T.job.events T.job.strands k (length B₀.labels) (length B₀.links) (length B₀.places) ≡ Ok tt
   no_fault =
       let s : T.job.strands ≤ 4096 = omega (arith, accepted_events.few T.job.events (omega arith), accepted_events.all) in
       sym (passes _ _ _ _ _ _ T.within T.labels_fit T.links_fit T.places_fit s)
 
   -- so the answer is that of the events
-  judged : judge_with file k B₀ ≡ judged_of (events_in file) k
+  judged : judge_with file k B₀ ≡ Ok (judged_of (events_in file) k)
   unfolding judge_of
   judged = rw (T.accepted, no_fault)
 
@@ -75,7 +75,7 @@ module _ (file : List ℕ) (k : ℕ) (B₀ : Buffers) (T : Judgeable file k B₀
   one_pair i j q i' j' q' = named_only (events_in file) k i j q i' j' q' (rooted k (omega arith))
 
   module _ (r : Result Answer Refusal) (B : Buffers) (F : JudgeGives file k B₀ r B) where
-    pub fits_judged : r ≡ judged_of (events_in file) k
+    pub fits_judged : r ≡ Ok (judged_of (events_in file) k)
     fits_judged = F.answer ∙ judged
 
     -- "A race is named exactly if there is one, and it is the one the rules name."

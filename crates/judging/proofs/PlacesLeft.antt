@@ -6,7 +6,7 @@ use native.Mathlib.Omega.{arith}
 use Rattle.jobfile.specs.File.{check_of, record_count}
 use Rattle.races.proofs.Named.{Entries, stop_entries}
 use Rattle.taking.specs.Buffers.{Buffers}
-use Rattle.std.specs.Prelude.{Result, Ok, Err}
+use Rattle.std.specs.Prelude.{Result}
 use Rattle.jobfile.specs.declared.refusal.Refusal.{Refusal}
 use Rattle.judging.specs.declared.Answer.{Answer}
 use Rattle.judging.specs.Leaves.{shown_at}

@@ -4,20 +4,17 @@ use mathlib.Core.Path.{◌≡◌, refl, subst}
 use mathlib.Core.Logic.{◌⊎◌, inl, inr}
 use mathlib.Core.List.{List}
 use mathlib.Core.Bool.{Bool, true, false, cond}
-use lib.Dec.{eqb, ltb}
+use lib.Dec.{ltb}
 use native.Mathlib.Omega.{arith}
-use borrow.Author.Tests.{ltb-true, ltb-false, eqb-true}
+use borrow.Author.Tests.{ltb-true, ltb-false}
 use Rattle.trailer.specs.Table.{row, Nowhere, Table, Exact, ExactNumbers}
 use Rattle.trailer.proofs.Table.{first_row, not_row, given_front, Ends, ends_behind, exact, exact_numbers}
 use Rattle.jobfile.specs.Refusals.{refusal_of}
 use Rattle.jobfile.specs.File.{check_of}
 use Rattle.jobfile.specs.Trace.{event_at}
 use Rattle.jobfile.specs.Rows.{part_in, job_in, read_table}
-use Rattle.jobfile.specs.declared.event.Event.{Event}
 use Rattle.jobfile.proofs.Rows.{ReadEnds, read_ends}
 use Rattle.orders.specs.Order.{spaced}
-use Rattle.races.specs.Records.{Verdict, clean, race}
-use Rattle.races.specs.Verdict.{verdict}
 use Rattle.std.specs.Prelude.{Result, Ok, Err}
 use Rattle.jobfile.specs.declared.refusal.Refusal.{Refusal}
 use Rattle.judging.specs.declared.Answer.{Answer}
@@ -26,7 +23,7 @@ use Rattle.trailer.specs.declared.fault.Fault.{Fault}
 use Rattle.trailer.specs.declared.fault.Fault.TheVariants.{ShortBuffer, PastEvents, NoLabels}
 use Rattle.trailer.specs.Numbers.{number_of}
 use Rattle.jobfile.specs.declared.job.Job.{Job}
-use Rattle.judging.specs.Answers.{answer_with, judged_of, no_room, judgeable, when_judgeable, after_check, judge_of, numbers_of}
+use Rattle.judging.specs.Answers.{judged_of, no_room, judgeable, when_judgeable, after_check, judge_of, numbers_of}
 use Rattle.judging.specs.Rows.{run_table, judge_table}
 
 -- what the run answers, unless one of the three is given; for answers of any kind

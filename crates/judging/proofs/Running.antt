@@ -47,6 +47,12 @@ may_run {part = part} R S = record {
   fresh = λ m o l kind r e. none_yet rules (event_trace (event_at part)) r;
 }
 
+-- the same from what the first three calls of a run leave
+pub runs : {part : List ℕ} {records k : ℕ} {B₀ B : Buffers} {T : OpenTasks} {now : Now} → Run part records k
+    → Reached (moves (event_at part)) 0 (orders_in B₀) (orders_in B) T now → Empty layout records B₀.places B.places → 16384 ≤ length B₀.places
+    → Runs part 0 k records k B₀ B T now
+runs R S empty room = may_run R (starts _ _ _ _ _ _ S empty room)
+
 -- no record has raced on the way to event n: nothing has
 nothing_raced : (part : List ℕ) (n : ℕ) → Still part 0 n → second_in rules (event_trace (event_at part)) n ≡ none
 nothing_raced part n still =

@@ -9,7 +9,7 @@ use Rattle.orders.specs.Lists.{Pairs}
 use Rattle.orders.specs.Order.{Order, label_in, next_in, back_in, order_of, back_order_of, differ}
 use Rattle.orders.specs.Model.{last_of}
 use Rattle.taking.specs.Buffers.{Buffers}
-use Rattle.std.specs.Prelude.{Result, Ok, Err}
+use Rattle.std.specs.Prelude.{Result, Ok}
 use Rattle.jobfile.specs.declared.refusal.Refusal.{Refusal}
 use Rattle.judging.specs.declared.Answer.{Answer}
 use Rattle.judging.specs.Answers.{numbers_of}

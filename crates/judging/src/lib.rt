@@ -53,8 +53,8 @@ pub enum Answer {
 
 // Judges the first k events of a file, or fewer if a race is met.
 pub fn judge(file: &[u8], k: usize, buffers: &mut WorkBuffers) -> Result<Answer, Refusal>
+    ensures judge_gives { JudgeGives file.now k (lists_in buffers.old) result (lists_in buffers.new) }
     ensures same_references { SameReferences buffers.old buffers.new }
-    ensures judged { JudgeGives file.now k (lists_in buffers.old) result (lists_in buffers.new) }
 {
     let job = jobfile::check(file)?;
     judge_job(file, job, k, buffers)
@@ -114,8 +114,9 @@ fn run(part: &[u8], k: usize, records: usize, buffers: &mut WorkBuffers) -> Answ
     let counts = Counts::from(reach.state);
     if reach.at < k {
         let found = taking::find(part, reach.at, reach.state, buffers);
+        let places = &mut *buffers.places;
         return Answer::Race {
-            first: races::held(buffers.places, found.kind, found.record),
+            first: races::held(places, found.kind, found.record),
             second: reach.at,
             record: found.record,
             counts,
