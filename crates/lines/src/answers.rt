@@ -75,11 +75,9 @@ fn entries(
     ensures upper_bound { result ≤ 97 * n }
 {
     let mut at = 0;
-    let mut i = 0;
-    while i < n {
+    for i in 0..n {
         let line = entry(events, wide(records[i]), wide(firsts[i]), wide(seconds[i]));
         at = put(out, at, &line);
-        i += 1;
     }
     at
 }
