@@ -1,4 +1,5 @@
 pub mod Lists
+pub mod RaceLists
 pub mod Listed
 pub mod Marks
 pub mod Goes
@@ -6,4 +7,3 @@ pub mod Answers
 pub mod Rows
 pub mod Leaves
 pub mod Gives
-pub mod Terms
