@@ -19,7 +19,7 @@ use Rattle.taking.specs.Buffers.{Buffers}
 use Rattle.judging.specs.Leaves.{Shows}
 use Rattle.judging.specs.Terms.{OneChain, changed}
 use Rattle.judging.proofs.Chains.{chain_order, one_chain}
-use Rattle.judging.proofs.Counts.{counts, held_changed}
+use Rattle.judging.proofs.TrueCounts.{counts, held_changed}
 
 module _ (ev : ℕ → Event) (n records : ℕ) (B₀ B : Buffers) (root : Rooted (moves ev) n) (S : Shows ev n records B₀ B) where
   abbrev begun : ℕ

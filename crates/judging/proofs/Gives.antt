@@ -5,14 +5,16 @@ use mathlib.Core.List.{List}
 use native.Mathlib.Omega.{arith}
 use lib.ListN.{length}
 use Rattle.taking.specs.Buffers.{Buffers}
+use Rattle.std.specs.Prelude.{Result, Ok, Err}
+use Rattle.jobfile.specs.declared.refusal.Refusal.{Refusal}
 use Rattle.judging.specs.declared.Answer.{Answer}
-use Rattle.judging.specs.declared.Answer.TheVariants.{Clean, Race, Refused}
+use Rattle.judging.specs.declared.Answer.TheVariants.{Clean, Race}
 use Rattle.judging.specs.Answers.{judge_with, numbers_of}
 use Rattle.judging.specs.Leaves.{Leaves}
 use Rattle.judging.specs.Gives.{JudgeGives}
 use Rattle.judging.proofs.Rows.{judging_numbers}
 
-module _ (file : List ℕ) (k : ℕ) (B₀ : Buffers) (r : Answer) (B : Buffers) where
+module _ (file : List ℕ) (k : ℕ) (B₀ : Buffers) (r : Result Answer Refusal) (B : Buffers) where
   pub judge_gives : r ≡ judge_with file k B₀ → Leaves r file k B₀ B → JudgeGives file k B₀ r B
   judge_gives e l = record {
     answer = e;
@@ -21,7 +23,7 @@ module _ (file : List ℕ) (k : ℕ) (B₀ : Buffers) (r : Answer) (B : Buffers)
   }
 
 -- a refusal stores nothing
-pub judge_stores : (file : List ℕ) (k : ℕ) (B₀ : Buffers) (r : Answer) (B : Buffers) → Leaves r file k B₀ B → 0 < (numbers_of r).refusal → B ≡ B₀
-judge_stores file k B₀ (Clean s e h) B l z = absurd (omega (arith, z))
-judge_stores file k B₀ (Race i j q s e h) B l z = absurd (omega (arith, z))
-judge_stores file k B₀ (Refused r) B l z = l
+pub judge_stores : (file : List ℕ) (k : ℕ) (B₀ : Buffers) (r : Result Answer Refusal) (B : Buffers) → Leaves r file k B₀ B → 0 < (numbers_of r).refusal → B ≡ B₀
+judge_stores file k B₀ (Ok (Clean c)) B l z = absurd (omega (arith, z))
+judge_stores file k B₀ (Ok (Race i j q c)) B l z = absurd (omega (arith, z))
+judge_stores file k B₀ (Err r) B l z = l

@@ -16,35 +16,37 @@ use Rattle.races.specs.Named.{Named}
 use Rattle.races.specs.Verdict.{verdict, stop_at}
 use Rattle.races.proofs.Named.{verdict_race, verdict_clean, named_only, stop_race, stop_clean}
 use Rattle.taking.specs.Buffers.{Buffers}
+use Rattle.std.specs.Prelude.{Result, Ok}
+use Rattle.jobfile.specs.declared.refusal.Refusal.{Refusal}
 use Rattle.judging.specs.declared.Answer.{Answer}
-use Rattle.judging.specs.Answers.{answer_with, judged_of, judge_fault, judge_of, judge_with}
+use Rattle.judging.specs.Answers.{answer_with, judged_of, judgeable, judge_of, judge_with}
 use Rattle.judging.specs.Leaves.{shown_at}
 use Rattle.judging.specs.Gives.{JudgeGives}
 use Rattle.judging.specs.Terms.{events_in, moves_in, Judgeable, Names, SaysClean}
 use Rattle.judging.proofs.Faults.{no_fault as passes}
 
 -- what an answer says of a verdict
-verdict_names : (v : Verdict) (a b c i j q : ℕ) → v ≡ race i j q → Names (answer_with v a b c) i j q
+verdict_names : (v : Verdict) (a b c i j q : ℕ) → v ≡ race i j q → Names (Ok (answer_with v a b c)) i j q
 verdict_names v a b c i j q e = rw e (record { raced = refl; first = refl; second = refl; number = refl })
 
-verdict_says_clean : (v : Verdict) (a b c : ℕ) → v ≡ clean → SaysClean (answer_with v a b c)
+verdict_says_clean : (v : Verdict) (a b c : ℕ) → v ≡ clean → SaysClean (Ok (answer_with v a b c))
 verdict_says_clean v a b c e = rw e (record { taken = refl; raced = refl; first = refl; second = refl; number = refl })
 
 -- the verdict behind an answer
-named_verdict : (v : Verdict) (a b c i j q : ℕ) → Names (answer_with v a b c) i j q → v ≡ race i j q
+named_verdict : (v : Verdict) (a b c i j q : ℕ) → Names (Ok (answer_with v a b c)) i j q → v ≡ race i j q
 named_verdict clean a b c i j q N = absurd (omega (arith, N.raced))
 named_verdict (race x y z) a b c i j q N = rw (N.first, N.second, N.number)
 
-clean_verdict : (v : Verdict) (a b c : ℕ) → SaysClean (answer_with v a b c) → v ≡ clean
+clean_verdict : (v : Verdict) (a b c : ℕ) → SaysClean (Ok (answer_with v a b c)) → v ≡ clean
 clean_verdict clean a b c C = refl
 clean_verdict (race x y z) a b c C = absurd (omega (arith, C.raced))
 
 -- where judging stops is what the answer shows
-pub stop_shown : (ev : ℕ → Event) (k : ℕ) → stop_at ev k ≡ shown_at k (judged_of ev k)
+pub stop_shown : (ev : ℕ → Event) (k : ℕ) → stop_at ev k ≡ shown_at k (Ok (judged_of ev k))
 unfolding judged_of
 stop_shown ev k = by (verdict ev k) refl _ _ _
   where
-    by : (v : Verdict) → verdict ev k ≡ v → (s e h : ℕ) → stop_at ev k ≡ shown_at k (answer_with v s e h)
+    by : (v : Verdict) → verdict ev k ≡ v → (s e h : ℕ) → stop_at ev k ≡ shown_at k (Ok (answer_with v s e h))
     by clean z s e h = stop_clean ev k z
     by (race i j r) z s e h = stop_race ev k i j r z
 
@@ -58,13 +60,13 @@ module _ (file : List ℕ) (k : ℕ) (B₀ : Buffers) (T : Judgeable file k B₀
   pub few : (n : ℕ) → n ≤ k → begun_at (moves_in file) n ≤ 4096
   few n h = accepted_events.few n (omega (arith, T.within))
 
-  pub no_fault : judge_fault T.job.events T.job.strands k (length B₀.labels) (length B₀.links) (length B₀.places) ≡ 0
+  pub no_fault : judgeable T.job.events T.job.strands k (length B₀.labels) (length B₀.links) (length B₀.places) ≡ Ok tt
   no_fault =
       let s : T.job.strands ≤ 4096 = omega (arith, accepted_events.few T.job.events (omega arith), accepted_events.all) in
       sym (passes _ _ _ _ _ _ T.within T.labels_fit T.links_fit T.places_fit s)
 
   -- so the answer is that of the events
-  judged : judge_with file k B₀ ≡ judged_of (events_in file) k
+  judged : judge_with file k B₀ ≡ Ok (judged_of (events_in file) k)
   unfolding judge_of
   judged = rw (T.accepted, no_fault)
 
@@ -72,8 +74,8 @@ module _ (file : List ℕ) (k : ℕ) (B₀ : Buffers) (T : Judgeable file k B₀
   pub one_pair : (i j q i' j' q' : ℕ) → Named (events_in file) k i j q → Named (events_in file) k i' j' q' → (i ≡ i') × (j ≡ j') × (q ≡ q')
   one_pair i j q i' j' q' = named_only (events_in file) k i j q i' j' q' (rooted k (omega arith))
 
-  module _ (r : Answer) (B : Buffers) (F : JudgeGives file k B₀ r B) where
-    pub fits_judged : r ≡ judged_of (events_in file) k
+  module _ (r : Result Answer Refusal) (B : Buffers) (F : JudgeGives file k B₀ r B) where
+    pub fits_judged : r ≡ Ok (judged_of (events_in file) k)
     fits_judged = F.answer ∙ judged
 
     -- "A race is named exactly if there is one, and it is the one the rules name."

@@ -6,6 +6,8 @@ use native.Mathlib.Omega.{arith}
 use Rattle.jobfile.specs.File.{check_of, record_count}
 use Rattle.races.proofs.Named.{Entries, stop_entries}
 use Rattle.taking.specs.Buffers.{Buffers}
+use Rattle.std.specs.Prelude.{Result}
+use Rattle.jobfile.specs.declared.refusal.Refusal.{Refusal}
 use Rattle.judging.specs.declared.Answer.{Answer}
 use Rattle.judging.specs.Leaves.{shown_at}
 use Rattle.judging.specs.Gives.{JudgeGives}
@@ -13,7 +15,7 @@ use Rattle.judging.specs.Terms.{events_in, Judgeable}
 use Rattle.judging.proofs.Judged.{rooted}
 use Rattle.judging.proofs.Reported.{fits_shows, fits_stop}
 
-pub places_left : (file : List ℕ) (k : ℕ) (B₀ : Buffers) → Judgeable file k B₀ → (r : Answer) (B : Buffers) → JudgeGives file k B₀ r B
+pub places_left : (file : List ℕ) (k : ℕ) (B₀ : Buffers) → Judgeable file k B₀ → (r : Result Answer Refusal) (B : Buffers) → JudgeGives file k B₀ r B
     → (q : ℕ) → q < record_count (check_of file) → Entries (events_in file) (shown_at k r) q B.places
 places_left file k B₀ T r B F q h =
     rw (← fits_stop file k B₀ T r B F)

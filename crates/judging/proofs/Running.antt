@@ -23,7 +23,7 @@ use Rattle.races.proofs.OneRace.{none_together, clean_all, stops_here}
 use Rattle.races.proofs.Events.{lawful, fit}
 use Rattle.judging.specs.declared.Answer.TheVariants.{Clean, Race}
 use Rattle.taking.specs.declared.Found.{Found}
-use Rattle.judging.specs.Answers.{answer_with, judged_of}
+use Rattle.judging.specs.Answers.{counts_in, answer_with, judged_of}
 use Rattle.judging.specs.Leaves.{Shows}
 use Rattle.taking.specs.Buffers.{Buffers, orders_in}
 use Rattle.taking.specs.Turns.{Run, Midway, Still, Races, Runs, FirstFound}
@@ -47,6 +47,12 @@ may_run {part = part} R S = record {
   fresh = λ m o l kind r e. none_yet rules (event_trace (event_at part)) r;
 }
 
+-- the same from what the first three calls of a run leave
+pub runs : {part : List ℕ} {records k : ℕ} {B₀ B : Buffers} {T : OpenTasks} {now : Now} → Run part records k
+    → Reached (moves (event_at part)) 0 (orders_in B₀) (orders_in B) T now → Empty layout records B₀.places B.places → 16384 ≤ length B₀.places
+    → Runs part 0 k records k B₀ B T now
+runs R S empty room = may_run R (starts _ _ _ _ _ _ S empty room)
+
 -- no record has raced on the way to event n: nothing has
 nothing_raced : (part : List ℕ) (n : ℕ) → Still part 0 n → second_in rules (event_trace (event_at part)) n ≡ none
 nothing_raced part n still =
@@ -66,7 +72,7 @@ answered k v S e f = rw (e, f) (
 -- all k events are behind
 pub ends_clean : {part : List ℕ} {records : ℕ} {B₀ B : Buffers} {T : OpenTasks} {now : Now} {i : ℕ} (k : ℕ)
     → Midway part records B₀ B T now i → Still part 0 i → i ≤ k → k ≤ i
-    → (Clean now.strands now.english now.hebrew ≡ judged_of (event_at part) k) × Shows (event_at part) (stop_at (event_at part) k) records B₀ B
+    → (Clean (counts_in now) ≡ judged_of (event_at part) k) × Shows (event_at part) (stop_at (event_at part) k) records B₀ B
 ends_clean {part = part} {i = i} k S still within past =
     let same : i ≡ k = omega arith in
     let c = clean_all rules (event_trace (event_at part)) k (rw same at (nothing_raced part i still)) in
@@ -80,7 +86,7 @@ rank_below Read = omega arith
 pub ends_raced : {part : List ℕ} {records : ℕ} {B₀ B : Buffers} {T : OpenTasks} {now : Now} {i : ℕ} (k : ℕ) → Run part records k → i < k
     → Midway part records B₀ B T now i → Still part 0 i → Races part i → (found : Found) → FirstFound part i found
     → (first : ℕ) → first ≡ get_or B.places (8192 * rank found.kind + found.«record») 0
-    → (Race first i found.«record» now.strands now.english now.hebrew ≡ judged_of (event_at part) k)
+    → (Race first i found.«record» (counts_in now) ≡ judged_of (event_at part) k)
     × Shows (event_at part) (stop_at (event_at part) k) records B₀ B
 ends_raced {part = part} {records = records} {B₀ = B₀} {B = B} {i = i} k R h S still W found F first e =
     let ev = event_at part in

@@ -5,11 +5,12 @@ use Rattle.jobfile.specs.File.{check_of, event_part}
 use Rattle.jobfile.specs.declared.event.Event.{Event}
 use Rattle.jobfile.specs.declared.event.Move.{Move}
 use Rattle.jobfile.specs.declared.job.Job.{Job}
-use Rattle.jobfile.specs.declared.Checked.TheVariants.{Accepted}
 use Rattle.orders.specs.Lists.{Pairs}
 use Rattle.orders.specs.Order.{Order, label_in, next_in, back_in, order_of, back_order_of, differ}
 use Rattle.orders.specs.Model.{last_of}
 use Rattle.taking.specs.Buffers.{Buffers}
+use Rattle.std.specs.Prelude.{Result, Ok}
+use Rattle.jobfile.specs.declared.refusal.Refusal.{Refusal}
 use Rattle.judging.specs.declared.Answer.{Answer}
 use Rattle.judging.specs.Answers.{numbers_of}
 
@@ -24,21 +25,21 @@ moves_in file = moves (events_in file)
 -- an accepted file, a k within it, and buffers long enough
 pub record Judgeable (file : List ℕ) (k : ℕ) (B : Buffers) : Type 0 where
   pub job : Job
-  pub accepted : check_of file ≡ Accepted job
+  pub accepted : check_of file ≡ Ok job
   pub within : k ≤ job.events
   pub labels_fit : 8192 ≤ length B.labels
   pub links_fit : 16384 ≤ length B.links
   pub places_fit : 16384 ≤ length B.places
 
 -- an answer names events i and j, and record q
-pub record Names (r : Answer) (i j q : ℕ) : Type 0 where
+pub record Names (r : Result Answer Refusal) (i j q : ℕ) : Type 0 where
   pub raced : (numbers_of r).raced ≡ 1
   pub first : (numbers_of r).first ≡ i
   pub second : (numbers_of r).second ≡ j
   pub number : (numbers_of r).number ≡ q
 
 -- "a clean answer has 0 for pair and record"
-pub record SaysClean (r : Answer) : Type 0 where
+pub record SaysClean (r : Result Answer Refusal) : Type 0 where
   pub taken : (numbers_of r).refusal ≡ 0
   pub raced : (numbers_of r).raced ≡ 0
   pub first : (numbers_of r).first ≡ 0
@@ -60,6 +61,6 @@ changed lo (suc n) L L' = changed lo n L L' + differ (label_in L lo n) (label_in
 
 -- "the count reported is the true one", by what two calls give alone: r and L for k events, r' and L' for one more. "A label counts as
 -- changed by an event if it differs after it, or if the strand is new."
-pub record CountStep (r r' : Answer) (L L' : List ℕ) : Type 0 where
+pub record CountStep (r r' : Result Answer Refusal) (L L' : List ℕ) : Type 0 where
   pub english : (numbers_of r').english ≡ (numbers_of r).english + ((numbers_of r').strands - (numbers_of r).strands + changed 0 (numbers_of r).strands L L')
   pub hebrew : (numbers_of r').hebrew ≡ (numbers_of r).hebrew + ((numbers_of r').strands - (numbers_of r).strands + changed 4096 (numbers_of r).strands L L')

@@ -4,54 +4,60 @@
 #![tactic(auto)]
 
 ghost use Rattle.std.specs.Prelude.{◌≡◌, length, ◌≤◌};
-ghost use Rattle.jobfile.specs.Lent.{was};
-ghost use Rattle.judging.specs.Answers.{judge_fault, judged_of};
+ghost use Rattle.judging.specs.Answers.{counts_in, judgeable, JudgeableBound, judged_of};
 ghost use Rattle.judging.specs.Leaves.{Shows};
 ghost use Rattle.judging.specs.Gives.{JudgeGives};
-ghost use Rattle.taking.specs.Buffers.{before, after};
+ghost use Rattle.taking.specs.WorkBuffers.{lists_in, SameReferences};
 ghost use Rattle.taking.specs.Turns.{Run};
 ghost use Rattle.jobfile.specs.File.{check_of};
 ghost use Rattle.jobfile.specs.Trace.{event_at};
-ghost use Rattle.jobfile.specs.declared.Checked.TheVariants.{Accepted};
 ghost use Rattle.races.specs.Verdict.{stop_at};
 
-use jobfile::{Checked, Job, Refusal};
-use limits::{LABELS, LINKS, NO_STRAND, OPEN_TASKS, PLACES, STRANDS};
-use taking::until_race;
+use jobfile::{Job, Refusal};
+use limits::{LABELS, LINKS, OPEN_TASKS, PLACES, STRANDS};
+use strands::{Now, ROOT};
+use taking::{WorkBuffers, until_race};
+use trailer::Fault;
 
-// Clean or race, with the strands begun and both label counts; or a refusal.
-#[derive(Clone, Copy)]
+// The strands begun and both label counts.
+#[derive(Clone, Copy, Debug, PartialEq, Eq)]
+pub struct Counts {
+    pub strands: usize,
+    pub english: usize,
+    pub hebrew: usize,
+}
+
+impl From<Now> for Counts {
+    ghost from_gives = { λ state counts. counts ≡ counts_in state };
+
+    fn from(state: Now) -> Counts {
+        Counts {
+            strands: state.strands,
+            english: state.english,
+            hebrew: state.hebrew,
+        }
+    }
+}
+
+// Clean, or the race that the rules name; with the counts of the state in which judging stopped.
+#[derive(Clone, Copy, Debug, PartialEq, Eq)]
 pub enum Answer {
-    Clean {
-        strands: usize,
-        english: usize,
-        hebrew: usize,
-    },
+    Clean(Counts),
     Race {
         first: usize,
         second: usize,
         record: usize,
-        strands: usize,
-        english: usize,
-        hebrew: usize,
+        counts: Counts,
     },
-    Refused(Refusal),
 }
 
 // Judges the first k events of a file, or fewer if a race is met.
-pub fn judge(
-    file: &[u8],
-    k: usize,
-    labels: &mut [u64],
-    links: &mut [u16],
-    places: &mut [u32],
-) -> Answer
-    ensures { JudgeGives file.now k (before labels links places) result (after labels links places) }
+pub fn judge(file: &[u8], k: usize, buffers: &mut WorkBuffers) -> Result<Answer, Refusal>
+    ensures judge_gives { JudgeGives file.now k (lists_in buffers.old) result (lists_in buffers.new) }
+    ensures same_references { SameReferences buffers.old buffers.new }
 {
-    match jobfile::check(file) {
-        Checked::Refused(r) => Answer::Refused(r),
-        Checked::Accepted(job) => judge_job(file, job, k, labels, links, places),
-    }
+    let job = jobfile::check(file)?;
+    judge_job(file, job, k, buffers)
 }
 
 // The same for a file that has been checked, with what the check gave: whoever has that need not have the file walked again.
@@ -60,85 +66,61 @@ pub fn judge_job(
     file: &[u8],
     job: Job,
     k: usize,
-    labels: &mut [u64],
-    links: &mut [u16],
-    places: &mut [u32],
-) -> Answer
-    requires { check_of file.now ≡ Accepted job }
-    ensures judged { JudgeGives file.now k (before labels links places) result (after labels links places) }
+    buffers: &mut WorkBuffers,
+) -> Result<Answer, Refusal>
+    requires { check_of file.now ≡ Ok job }
+    ensures same_references { SameReferences buffers.old buffers.new }
+    ensures judged { JudgeGives file.now k (lists_in buffers.old) result (lists_in buffers.new) }
 {
-    let fault = judge_fault(job, k, labels.len(), links.len(), places.len());
-    if fault != 0 {
-        return Answer::Refused(jobfile::refuse(fault, 0));
-    }
-    let start = job.start;
-    let end = start + 4 * job.events;
-    run(&file[start..end], k, job.records, labels, links, places)
+    judgeable(&job, k, buffers)?;
+    Ok(run(job.part(file), k, job.records, buffers))
 }
 
-// The first of refusals 15, 14 and 17 that is given, or 0. A respacing of 4,096 strands ends
-// below 2^64, and one of more does not.
-pub fn judge_fault(j: Job, k: usize, labels: usize, links: usize, places: usize) -> u32
-    ensures value { result ≡ judge_fault j.events j.strands k labels links places }
-    ensures k_le_events { result ≡ 0 → (k ≤ j.events) × (8192 ≤ labels) × (16384 ≤ links) × (16384 ≤ places) }
-    ensures upper_bound { result ≤ 17 }
+// The first of refusals 15, 14 and 17 that is given. A respacing of 4,096 strands ends below 2^64, and one of more does not.
+pub fn judgeable(job: &Job, k: usize, buffers: &WorkBuffers) -> Result<(), Fault>
+    ensures value { result ≡ judgeable job.now.events job.now.strands k (length buffers.now.labels.now) (length buffers.now.links.now) (length buffers.now.places.now) }
+    ensures judgeable_bound { JudgeableBound result job.now.events k (length buffers.now.labels.now) (length buffers.now.links.now) (length buffers.now.places.now) }
 {
-    if k > j.events {
-        return 15;
+    if k > job.events {
+        return Err(Fault::PastEvents);
     }
-    if labels < LABELS {
-        return 14;
+    if buffers.labels.len() < LABELS {
+        return Err(Fault::ShortBuffer);
     }
-    if links < LINKS {
-        return 14;
+    if buffers.links.len() < LINKS {
+        return Err(Fault::ShortBuffer);
     }
-    if places < PLACES {
-        return 14;
+    if buffers.places.len() < PLACES {
+        return Err(Fault::ShortBuffer);
     }
-    if j.strands > STRANDS {
-        return 17;
+    if job.strands > STRANDS {
+        return Err(Fault::NoLabels);
     }
-    0
+    Ok(())
 }
 
 // Judges the first k of the events of an accepted file, with buffers that are long enough.
-fn run(
-    part: &[u8],
-    k: usize,
-    records: usize,
-    labels: &mut [u64],
-    links: &mut [u16],
-    places: &mut [u32],
-) -> Answer
+fn run(part: &[u8], k: usize, records: usize, buffers: &mut WorkBuffers) -> Answer
     requires run { Run part.now records k }
-    requires in_bounds { (8192 ≤ length labels.old) × (16384 ≤ length links.old) × (16384 ≤ length places.old) }
+    requires in_bounds { (8192 ≤ length buffers.old.labels.now) × (16384 ≤ length buffers.old.links.now) × (16384 ≤ length buffers.old.places.now) }
+    ensures same_references { SameReferences buffers.old buffers.new }
     ensures value { result ≡ judged_of (event_at part.now) k }
-    ensures shows { Shows (event_at part.now) (stop_at (event_at part.now) k) records (before labels links places) (after labels links places) }
+    ensures shows { Shows (event_at part.now) (stop_at (event_at part.now) k) records (lists_in buffers.old) (lists_in buffers.new) }
 {
-    races::clear(places, records);
-    let mut lasts = [0; OPEN_TASKS];
-    let mut joins = [NO_STRAND; OPEN_TASKS];
-    let begun = strands::begin(labels, links);
-    let reach = until_race(
-        part, 0, k, begun, &mut lasts, &mut joins, labels, links, places,
-    );
-    let state = reach.state;
+    races::clear(buffers.places, records);
+    let mut tasks = [ROOT; OPEN_TASKS];
+    let begun = strands::begin(buffers.labels, buffers.links);
+    let reach = until_race(part, 0, k, begun, &mut tasks, buffers);
+    let counts = Counts::from(reach.state);
     if reach.at < k {
-        let found = taking::find(part, reach.at, state, labels, places);
-        let kind = found.kind;
-        let record = found.record;
+        let found = taking::find(part, reach.at, reach.state, buffers);
+        let places = &mut *buffers.places;
         return Answer::Race {
-            first: races::held(places, kind, record),
+            first: races::held(places, found.kind, found.record),
             second: reach.at,
-            record,
-            strands: state.strands,
-            english: state.english,
-            hebrew: state.hebrew,
+            record: found.record,
+            counts,
         };
     }
-    Answer::Clean {
-        strands: state.strands,
-        english: state.english,
-        hebrew: state.hebrew,
-    }
+    Answer::Clean(counts)
 }

@@ -10,31 +10,31 @@ use lib.ListN.{length, drop}
 use lib.Seq.{take-append_seam, drop-append_seam}
 use borrow.Author.Tests.{lt-ltb, le-ltb}
 use Rattle.io.specs.Counts.{IsPrefixLen}
-use Rattle.line.specs.declared.Lined.TheVariants.{Bytes, Short}
+use Rattle.std.specs.Prelude.{None, Some}
 use Rattle.bytes_at.specs.Put.{Put}
 use Rattle.line.specs.Line.{lined_of, out_of}
 use Rattle.bytes_at.proofs.Puts.{put_whole, put_counted}
 
 module _ (line out : List ℕ) where
-  pub too_short : length out < length line → length line ≤ 256 → (Short ≡ lined_of line (length out)) × ((out ≡ out_of line out) × (length out < 256))
+  pub too_short : length out < length line → length line ≤ 256 → (None ≡ lined_of line (length out)) × ((out ≡ out_of line out) × (length out < 256))
   unfolding lined_of out_of
   too_short h l = rw (lt-ltb (length out) (length line)) (refl, (refl, omega arith))
 
   pub delivered : (after : List ℕ) (n : ℕ) → length line ≤ length out → length after ≡ length out → Put out 0 line n after
-      → (Bytes n ≡ lined_of line (length out)) × ((after ≡ out_of line out) × IsPrefixLen n after)
+      → (Some n ≡ lined_of line (length out)) × ((after ≡ out_of line out) × IsPrefixLen n after)
   unfolding lined_of out_of
   delivered after n h l p =
       let whole : after ≡ line ++ drop (length line) out = rw zero-add at (put_whole p) in
       rw (le-ltb (length out) (length line)) (rw (p.count, zero-add), (whole, (omega (arith, p.count), put_counted p)))
 
   -- an answer that counts bytes has put the line there, whatever test says that an output is short
-  pub put_by : (short : Bool) (after : List ℕ) (n : ℕ) → Bytes n ≡ cond short Short (Bytes (length line))
+  pub put_by : (short : Bool) (after : List ℕ) (n : ℕ) → Some n ≡ cond short None (Some (length line))
       → after ≡ cond short out (line ++ drop (length line) out) → Put out 0 line n after
-  put_by true after n e o = let z : ◌≡◌ {A = ℕ} 0 1 = cc in absurd (omega arith)
+  put_by true after n e o = cc
   put_by false after n e o =
       let all : n ≡ length line = cc in
       record { front = rw (all, o, take-append_seam); rest = rw (all, o, drop-append_seam); count = rw (all, zero-add) }
 
-  pub line_put : (after : List ℕ) (n : ℕ) → Bytes n ≡ lined_of line (length out) → after ≡ out_of line out → Put out 0 line n after
+  pub line_put : (after : List ℕ) (n : ℕ) → Some n ≡ lined_of line (length out) → after ≡ out_of line out → Put out 0 line n after
   unfolding lined_of out_of
   line_put after n e o = put_by (ltb (length out) (length line)) after n e o

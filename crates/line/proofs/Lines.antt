@@ -4,7 +4,7 @@ use mathlib.Core.Path.{◌≡◌, refl}
 use mathlib.Core.List.{List, [], ◌∷◌, map}
 use Rattle.jobfile.specs.Coding.{event_of}
 use Rattle.jobfile.specs.Trace.{event_at, tasks_at, begun_at}
-use Rattle.trailer.specs.Trailer.{word_at, starts_with, printable, trailer_fault, head_named, head_sized, head_of}
+use Rattle.trailer.specs.Trailer.{word_at, printable, start_in, head_sized, head_of}
 use Rattle.jobfile.specs.Tasks.{task_fault, record_fault, step_on, move_on, finish, trace_from}
 use Rattle.jobfile.specs.File.{check_of}
 use Rattle.jobfile.specs.Samples.{l4}
@@ -16,7 +16,7 @@ use Rattle.strands.specs.States.{state_at, count_at}
 use Rattle.races.specs.Search.{any, least}
 use Rattle.races.specs.Places.{held_of, first_of}
 use Rattle.races.specs.Records.{races, raced, raced_any, verdict_in, stop_in}
-use Rattle.judging.specs.Answers.{judged_of, no_room, judge_fault, judge_of}
+use Rattle.judging.specs.Answers.{judged_of, no_room, judgeable, judge_of}
 use Rattle.line.specs.Text.{ascii, digits_within, digits_of, pair_text, kinds_text, counts_text, name_text, refusal_text}
 use Rattle.line.specs.Line.{line_of}
 
@@ -48,7 +48,7 @@ pub small_lines : lines (l4 ∷ case5 ∷ empty_job ∷ [] ∷ [])
     ∷ ascii "clean strands 1 english 1 hebrew 1 name \n"
     ∷ ascii "refused 1 event 0\n"
     ∷ [])
-unfolding line_of digits_within pair_text kinds_text counts_text name_text refusal_text judge_of judge_fault no_room judged_of check_of head_of head_sized head_named trailer_fault printable starts_with word_at trace_from finish step_on move_on task_fault record_fault event_of event_at tasks_at begun_at opened move_at walk_for walk any least races raced held_of first_of raced_any verdict_in stop_in cells state_at count_at insert_after differ ceiling limit gap_at has_room middle spread insert_lab insert_state diffs insert_count
+unfolding line_of digits_within pair_text kinds_text counts_text name_text refusal_text judge_of judgeable no_room judged_of check_of head_of head_sized start_in printable word_at trace_from finish step_on move_on task_fault record_fault event_of event_at tasks_at begun_at opened move_at walk_for walk any least races raced held_of first_of raced_any verdict_in stop_in cells state_at count_at insert_after differ ceiling limit gap_at has_room middle spread insert_lab insert_state diffs insert_count
 small_lines = refl
 
 pub small_numbers : map digits_of (0 ∷ 9 ∷ 10 ∷ 129 ∷ 4096 ∷ 18446744073709551615 ∷ [])

@@ -6,10 +6,10 @@ use Rattle.jobfile.specs.File.{check_of, event_count}
 use Rattle.judging.proofs.Gives.{judge_gives}
 use Rattle.judging.proofs.OneAnswer.{judged_once}
 use Rattle.taking.specs.Buffers.{Buffers}
-use Rattle.line.specs.declared.Lined.{Lined}
+use Rattle.std.specs.Prelude.{Option}
 use Rattle.line.specs.Line.{judge_all_with, LineGives}
 
-pub lined_once : (input : List ℕ) (B₀ : Buffers) (out₀ : List ℕ) (r r' : Lined) (B B' : Buffers) (out out' : List ℕ)
+pub lined_once : (input : List ℕ) (B₀ : Buffers) (out₀ : List ℕ) (r r' : Option ℕ) (B B' : Buffers) (out out' : List ℕ)
     → LineGives input B₀ out₀ r B out → LineGives input B₀ out₀ r' B' out'
     → (r ≡ r') × (out ≡ out') × (B ≡ B')
 lined_once input B₀ out₀ r r' B B' out out' G G' =

@@ -1,15 +1,16 @@
 -- The words, numbers and fields of a line as bytes, and the text of each answer.
-use Rattle.std.specs.Prelude.{ℕ, zero, suc, ◌+◌, ◌*◌, ◌/◌, ◌%◌, ◌≤◌, cond, List, [], ◌∷◌, ◌++◌, ltb}
+use Rattle.std.specs.Prelude.{ℕ, zero, suc, ◌+◌, ◌*◌, ◌/◌, ◌%◌, ◌≤◌, cond, List, [], ◌∷◌, ◌++◌, ltb, Option, None, Some, Result, Ok, Err}
 use Prim.Native.String.{String, [] as empty, ◌∷◌ as ◌then◌}
 use Prim.Native.Char.{code}
 use Rattle.jobfile.specs.Trace.{event_at}
 use Rattle.jobfile.specs.Events.{access_of}
 use Rattle.jobfile.specs.declared.event.Kind.TheVariants.{Write, Read}
+use Rattle.jobfile.specs.declared.event.Kind.{Kind}
 use Rattle.jobfile.specs.declared.event.Access.{Access}
-use Rattle.jobfile.specs.declared.event.Access.TheVariants.{None, To}
+use Rattle.jobfile.specs.Refusals.{number_in}
 use Rattle.jobfile.specs.declared.refusal.Refusal.{Refusal}
 use Rattle.judging.specs.declared.Answer.{Answer}
-use Rattle.judging.specs.declared.Answer.TheVariants.{Clean, Race, Refused}
+use Rattle.judging.specs.declared.Answer.TheVariants.{Clean, Race}
 
 -- a word as bytes
 abbrev pub ascii : String → List ℕ
@@ -27,17 +28,20 @@ abbrev pub digits_of : ℕ → List ℕ
 digits_of n = digits_within 20 n
 
 -- "the kinds of both accesses": R or W; an event that is no access has no letter
-abbrev pub letter_of : Access → List ℕ
+abbrev pub kind_letter : Kind → List ℕ
+kind_letter Read = 82 ∷ []
+kind_letter Write = 87 ∷ []
+
+abbrev pub letter_of : Option Access → List ℕ
 letter_of None = []
-letter_of (To Read r) = 82 ∷ []
-letter_of (To Write r) = 87 ∷ []
+letter_of (Some a) = kind_letter a.kind
 
 -- The parts of a line.
 unfoldable pub pair_text : ℕ → ℕ → ℕ → List ℕ
 pair_text number first second =
     ascii "race record " ++ digits_of number ++ (ascii " first " ++ digits_of first ++ (ascii " second " ++ digits_of second))
 
-unfoldable pub kinds_text : Access → Access → List ℕ
+unfoldable pub kinds_text : Option Access → Option Access → List ℕ
 kinds_text a b = ascii " kinds " ++ (letter_of a ++ letter_of b)
 
 unfoldable pub counts_text : ℕ → ℕ → ℕ → List ℕ
@@ -60,16 +64,18 @@ race_text first second number strands english hebrew events name =
 
 -- "a refusal is `refused N event K`"
 unfoldable pub refusal_text : Refusal → List ℕ
-refusal_text r = ascii "refused " ++ digits_of r.number ++ (ascii " event " ++ digits_of r.event ++ ascii "\n")
+refusal_text r = ascii "refused " ++ digits_of (number_in r) ++ (ascii " event " ++ digits_of r.event ++ ascii "\n")
 
 -- the line of an answer, for the event part and the name of the file
-abbrev pub answer_text : Answer → List ℕ → List ℕ → List ℕ
-answer_text (Clean strands english hebrew) events name = clean_text strands english hebrew name
-answer_text (Race first second number strands english hebrew) events name = race_text first second number strands english hebrew events name
-answer_text (Refused r) events name = refusal_text r
+abbrev pub judged_text : Answer → List ℕ → List ℕ → List ℕ
+judged_text (Clean c) events name = clean_text c.strands c.english c.hebrew name
+judged_text (Race first second number c) events name = race_text first second number c.strands c.english c.hebrew events name
+
+abbrev pub answer_text : Result Answer Refusal → List ℕ → List ℕ → List ℕ
+answer_text (Ok answer) events name = judged_text answer events name
+answer_text (Err r) events name = refusal_text r
 
 -- the pair of an answer that names one is within so many bytes of events
 abbrev pub PairWithin : Answer → ℕ → Type 0
-PairWithin (Clean strands english hebrew) room = Unit {0}
-PairWithin (Race first second number strands english hebrew) room = (4 * first + 4 ≤ room) × (4 * second + 4 ≤ room)
-PairWithin (Refused r) room = Unit {0}
+PairWithin (Clean c) room = Unit {0}
+PairWithin (Race first second number c) room = (4 * first + 4 ≤ room) × (4 * second + 4 ≤ room)

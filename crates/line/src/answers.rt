@@ -3,23 +3,31 @@ ghost use Rattle.std.specs.Prelude.{◌≡◌, ◌++◌, ◌+◌, ◌*◌, ◌�
 ghost use Rattle.arrayvec.specs.ArrayVec.{array_vec_len};
 ghost use Rattle.jobfile.specs.Events.{access_of};
 ghost use Rattle.jobfile.specs.Trace.{event_at};
-ghost use Rattle.line.specs.Text.{letter_of, pair_text, kinds_text, counts_text, name_text, clean_text, race_text, refusal_text, answer_text, PairWithin};
+ghost use Rattle.line.specs.Text.{letter_of, pair_text, kinds_text, counts_text, name_text, clean_text, race_text, refusal_text, judged_text, PairWithin};
 
 use crate::text::{Text, field, put};
 use jobfile::{Access, Kind, Refusal};
-use judging::Answer;
+use judging::{Answer, Counts};
 
 // The letter of an access; an event that is none has no letter.
-fn letter(access: Access) -> &'static [u8]
+fn letter(access: Option<Access>) -> &'static [u8]
     ensures value { result.now ≡ letter_of access }
     ensures upper_bound { length result.now ≤ 1 }
 {
     match access {
-        Access::To { kind, record: _ } => match kind {
-            Kind::Write => b"W",
-            Kind::Read => b"R",
-        },
-        Access::None => b"",
+        Some(
+            Access {
+                kind: Kind::Write,
+                ..
+            },
+        ) => b"W",
+        Some(
+            Access {
+                kind: Kind::Read,
+                ..
+            },
+        ) => b"R",
+        None => b"",
     }
 }
 
@@ -50,14 +58,14 @@ pub fn kinds(text: &mut Text, events: &[u8], first: usize, second: usize)
 }
 
 // requires: there is room for three words and three numbers.
-pub fn counts(text: &mut Text, strands: usize, english: usize, hebrew: usize)
+pub fn counts(text: &mut Text, counts: Counts)
     requires { array_vec_len text.old + 86 ≤ 256 }
-    ensures put { text.new.items ≡ text.old.items ++ counts_text strands english hebrew }
+    ensures put { text.new.items ≡ text.old.items ++ counts_text counts.strands counts.english counts.hebrew }
     ensures upper_bound { array_vec_len text.new ≤ array_vec_len text.old + 86 }
 {
-    field(text, b" strands ", strands);
-    field(text, b" english ", english);
-    field(text, b" hebrew ", hebrew);
+    field(text, b" strands ", counts.strands);
+    field(text, b" english ", counts.english);
+    field(text, b" hebrew ", counts.hebrew);
 }
 
 // requires: there is room for the name and seven bytes more.
@@ -76,7 +84,7 @@ pub fn refusal(refused: Refusal) -> Text
     ensures { result.items ≡ refusal_text refused }
 {
     let mut text = Text::new();
-    field(&mut text, b"refused ", refused.number as usize);
+    field(&mut text, b"refused ", refused.fault.number() as usize);
     field(&mut text, b" event ", refused.event);
     put(&mut text, b"\n");
     text
@@ -84,13 +92,13 @@ pub fn refusal(refused: Refusal) -> Text
 
 // requires: there is room for the name and 98 bytes more.
 #[tactic(auto, using(std::proofs::Common::append_assoc))]
-pub fn clean(strands: usize, english: usize, hebrew: usize, name: &[u8]) -> Text
+pub fn clean(counted: Counts, name: &[u8]) -> Text
     requires { length name.now + 98 ≤ 256 }
-    ensures { result.items ≡ clean_text strands english hebrew name.now }
+    ensures { result.items ≡ clean_text counted.strands counted.english counted.hebrew name.now }
 {
     let mut text = Text::new();
     put(&mut text, b"clean");
-    counts(&mut text, strands, english, hebrew);
+    counts(&mut text, counted);
     ending(&mut text, name);
     text
 }
@@ -100,48 +108,37 @@ fn race(
     first: usize,
     second: usize,
     number: usize,
-    strands: usize,
-    english: usize,
-    hebrew: usize,
+    counted: Counts,
     events: &[u8],
     name: &[u8],
 ) -> Text
     requires name_in_bounds { length name.now + 189 ≤ 256 }
     requires first_in_bounds { 4 * first + 4 ≤ length events.now }
     requires second_in_bounds { 4 * second + 4 ≤ length events.now }
-    ensures { result.items ≡ race_text first second number strands english hebrew events.now name.now }
+    ensures { result.items ≡ race_text first second number counted.strands counted.english counted.hebrew events.now name.now }
 {
     let mut text = Text::new();
     pair(&mut text, number, first, second);
     kinds(&mut text, events, first, second);
-    counts(&mut text, strands, english, hebrew);
+    counts(&mut text, counted);
     ending(&mut text, name);
     text
 }
 
-// The line of an answer, for the event part and the name of the file.
+// The line of an answer that is no refusal, for the event part and the name of the file.
 // requires: the line is not too long for a text, and both events of a pair are there.
 pub fn answer(answer: Answer, events: &[u8], name: &[u8]) -> Text
     requires name_len_bound { length name.now ≤ 64 }
     requires pair_within { PairWithin answer (length events.now) }
-    ensures { result.items ≡ answer_text answer events.now name.now }
+    ensures { result.items ≡ judged_text answer events.now name.now }
 {
     match answer {
-        Answer::Clean {
-            strands,
-            english,
-            hebrew,
-        } => clean(strands, english, hebrew, name),
+        Answer::Clean(counts) => clean(counts, name),
         Answer::Race {
             first,
             second,
             record,
-            strands,
-            english,
-            hebrew,
-        } => race(
-            first, second, record, strands, english, hebrew, events, name,
-        ),
-        Answer::Refused(r) => refusal(r),
+            counts,
+        } => race(first, second, record, counts, events, name),
     }
 }

@@ -9,73 +9,56 @@ mod answers;
 mod text;
 
 ghost use Rattle.std.specs.Prelude.{◌≡◌, ◌≤◌, length};
-ghost use Rattle.jobfile.specs.File.{check_of};
+ghost use Rattle.std.specs.Result.{MatchResult};
 ghost use Rattle.jobfile.specs.Lent.{was, is};
-ghost use Rattle.jobfile.specs.declared.Checked.TheVariants.{Accepted};
-ghost use Rattle.taking.specs.Buffers.{before, after};
+ghost use Rattle.taking.specs.WorkBuffers.{lists_in, SameReferences};
+ghost use Rattle.line.specs.Text.{refusal_text};
 ghost use Rattle.line.specs.Line.{lined_of, out_of, LineFits, LineGives, TextGives};
 
 pub use answers::{clean, counts, ending, kinds, pair, refusal};
-use jobfile::{Checked, Job};
+use jobfile::Refusal;
+use taking::WorkBuffers;
 pub use text::{Text, field, put};
 
-// How many bytes were put; or that the output is too short for them.
-#[derive(Clone, Copy)]
-pub enum Lined {
-    Bytes(usize),
-    Short,
-}
-
-// The line for all events of the input, at the start of `out`; what is behind it stays, and an output
-// that is too short stays whole. The work buffers are left as judging leaves them.
-pub fn line(
-    input: &[u8],
-    labels: &mut [u64],
-    links: &mut [u16],
-    places: &mut [u32],
-    out: &mut [u8],
-) -> Lined
-    ensures line_gives { LineGives input.now (before labels links places) (was out) result (after labels links places) (is out) }
+// The line for all events of the input, at the start of `out`: how many bytes it has, or None where the output is too short for them, which
+// then stays whole; what is behind the line stays. The work buffers are left as judging leaves them.
+pub fn line(input: &[u8], buffers: &mut WorkBuffers, out: &mut [u8]) -> Option<usize>
+    ensures line_gives { LineGives input.now (lists_in buffers.old) (was out) result (lists_in buffers.new) (is out) }
     ensures line_fits { LineFits result (is out) }
+    ensures same_references { SameReferences buffers.old buffers.new }
 {
-    let text = text_of(input, labels, links, places);
+    let text = text_of(input, buffers);
     deliver(&text, out)
 }
 
-// The line. The events are walked twice: by the check, and by judging.
-fn text_of(input: &[u8], labels: &mut [u64], links: &mut [u16], places: &mut [u32]) -> Text
-    ensures { TextGives input.now (before labels links places) result.items (after labels links places) }
+// The line.
+fn text_of(input: &[u8], buffers: &mut WorkBuffers) -> Text
+    ensures text_gives { TextGives input.now (lists_in buffers.old) result.items (lists_in buffers.new) }
+    ensures same_references { SameReferences buffers.old buffers.new }
 {
-    match jobfile::check(input) {
-        Checked::Refused(r) => refusal(r),
-        Checked::Accepted(job) => judged(input, job, labels, links, places),
-    }
+    judged(input, buffers).unwrap_or_else(refusal)
 }
 
-// The same for an input that has been checked.
-// requires: the job is what the check of this very input gives.
-fn judged(input: &[u8], job: Job, labels: &mut [u64], links: &mut [u16], places: &mut [u32]) -> Text
-    requires { check_of input.now ≡ Accepted job }
-    ensures { TextGives input.now (before labels links places) result.items (after labels links places) }
+// The line of an input that is not refused. The events are walked twice: by the check, and by judging.
+fn judged(input: &[u8], buffers: &mut WorkBuffers) -> Result<Text, Refusal>
+    ensures text_gives { MatchResult result (λ text. TextGives input.now (lists_in buffers.old) text.items (lists_in buffers.new)) (λ r. TextGives input.now (lists_in buffers.old) (refusal_text r) (lists_in buffers.new)) }
+    ensures same_references { SameReferences buffers.old buffers.new }
 {
-    let start = job.start;
-    let end = start + 4 * job.events;
-    let events = &input[start..end];
-    let name = &input[..start];
-    let answer = judging::judge_job(input, job, job.events, labels, links, places);
-    answers::answer(answer, events, name)
+    let job = jobfile::check(input)?;
+    let answer = judging::judge_job(input, job, job.events, buffers)?;
+    Ok(answers::answer(answer, job.part(input), job.name(input)))
 }
 
 // The bytes at the start of the output, or nothing where they do not fit.
 // requires: they are a line's at most.
-fn deliver(text: &[u8], out: &mut [u8]) -> Lined
+fn deliver(text: &[u8], out: &mut [u8]) -> Option<usize>
     requires { length text.now ≤ 256 }
     ensures value { result ≡ lined_of text.now (length (was out)) }
     ensures out_value { is out ≡ out_of text.now (was out) }
     ensures line_fits { LineFits result (is out) }
 {
     if out.len() < text.len() {
-        return Lined::Short;
+        return None;
     }
-    Lined::Bytes(bytes_at::put(out, 0, text))
+    Some(bytes_at::put(out, 0, text))
 }

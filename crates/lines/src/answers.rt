@@ -1,4 +1,5 @@
-// The text of each answer, put line by line from the start of a buffer.
+// The text of each answer, put line by line from the start of the caller's output. The place in it goes along, since the whole is too
+// long for a vector of fixed capacity, and there is no heap.
 ghost use Rattle.std.specs.Prelude.{◌≡◌, ◌+◌, ◌*◌, ◌≤◌, length};
 ghost use Rattle.arrayvec.specs.ArrayVec.{array_vec_len};
 ghost use Rattle.jobfile.specs.Lent.{was, is};
@@ -75,11 +76,9 @@ fn entries(
     ensures upper_bound { result ≤ 97 * n }
 {
     let mut at = 0;
-    let mut i = 0;
-    while i < n {
+    for i in 0..n {
         let line = entry(events, wide(records[i]), wide(firsts[i]), wide(seconds[i]));
         at = put(out, at, &line);
-        i += 1;
     }
     at
 }

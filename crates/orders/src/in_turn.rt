@@ -50,7 +50,8 @@ pub fn append(
     }
 }
 
-// Gives strand k the label of position k, from `at` on, and returns how many labels that changed.
+// Gives strand k the label of position k, from `at` on, and returns how many labels that changed. It shares `put` with the walk along the
+// links, and not the loop: that would take a closure for the next strand, with a contract longer than the loop.
 #[tactic(auto, using(crate::proofs::Respaced::differ_few))]
 fn respace(labels: &mut [u64], base: Base, at: usize, n: usize) -> usize
     requires { (at ≤ n) × (n ≤ 4096) × (base.labels + 4096 ≤ length labels.old) }

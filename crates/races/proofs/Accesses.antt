@@ -7,8 +7,7 @@ use mathlib.Core.Bool.{Bool, true, false, cond, false≢true, ◌&&◌}
 use mathlib.Core.Option.{Option, none, some}
 use Prim.Native.Nat.{ℕ, suc, ◌<◌}
 use native.Mathlib.Omega.{arith}
-use lib.Dec.{eqb}
-use borrow.Author.Tests.{eqb-true, eqb-false, eq-eqb, ne_eqb}
+use borrow.Author.Tests.{eq-eqb, ne_eqb}
 use Rattle.races.specs.Trace.{access, Trace, on_record, is_of, class_of}
 use Rattle.races.specs.Rules.{Rules}
 use Rattle.races.specs.Places.{holds, stood, par_to, in_class, held, finds, found_class, first_in, first_of, found}
@@ -16,8 +15,9 @@ use Rattle.races.specs.Entries.{put, Layout, HasPlace}
 use Rattle.races.specs.Shown.{Names, NamesNone, shown_at, Facing, Accessed}
 use Rattle.races.proofs.Search.{Least, least_is, least_only}
 use Rattle.races.proofs.Standing.{holds_some}
-use Rattle.races.proofs.Found.{together, of_is, found_by, finding_first}
-use Rattle.races.proofs.Entries.{holding_same, holding_put}
+use Rattle.std.proofs.lemmas.Bool.{and_from, cases_eq}
+use Rattle.races.proofs.Found.{of_is, found_by, found_none, finding_first}
+use Rattle.races.proofs.Entries.{one_or_other, holding_same, holding_put}
 use Rattle.races.proofs.Places.{stood_new, stood_last, stood_old, held_next, held_off, clean_follows, elsewhere_stays}
 
 guarded : (x a b : Bool) → (x ≡ true → a ≡ b) → (x && a) ≡ (x && b)
@@ -32,11 +32,7 @@ off_class : (r d b : ℕ) → d ≢ b → is_of r d (access r b) ≡ false
 off_class r d b n = rw (ne_eqb b d (λ e. n (sym e)), eq-eqb r r refl)
 
 pub same_or_not : (q r : ℕ) → (q ≡ r) ⊎ (q ≢ r)
-same_or_not q r = go (eqb q r) refl
-  where
-    go : (t : Bool) → eqb q r ≡ t → (q ≡ r) ⊎ (q ≢ r)
-    go true e = inl (eqb-true q r e)
-    go false e = inr (eqb-false q r e)
+same_or_not = cases_eq
 
 module _ {R : Rules} {T : Trace} {n r b : ℕ} {told : ℕ → Bool} (F : Facing R T n r b told) where
   -- the engine's word, class by class
@@ -46,7 +42,7 @@ module _ {R : Rules} {T : Trace} {n r b : ℕ} {told : ℕ → Bool} (F : Facing
       rw e (guarded (R.clash c b) (holds (par_to T n) (held R T r c n)) (told c) (λ t. sym (F.tells c h (inl t))))
 
   names_finds : (c : ℕ) → Names R b told c → finds R T r n c ≡ true
-  names_finds c N = finds_told c N.below ∙ together N.clash N.parallel
+  names_finds c N = finds_told c N.below ∙ and_from _ _ N.clash N.parallel
 
   -- the class that is named, and what its place holds
   pub names_class : (c : ℕ) → Names R b told c → found_class R T r n ≡ some c
@@ -82,12 +78,7 @@ module _ {R : Rules} {T : Trace} {n r b : ℕ} {told : ℕ → Bool} (F : Facing
   names_none f = none_first (found_class R T r n) (least_is (finds R T r n) R.classes) f
 
   none_found : NamesNone R b told → found R T r n ≡ false
-  unfolding found
-  none_found f = rw (names_none f) (all_false (on_record r (T.act n)))
-    where
-      all_false : (x : Bool) → (x && false) ≡ false
-      all_false true = refl
-      all_false false = refl
+  none_found f = found_none R T r n (names_none f)
 
   -- nothing named: the places of other classes and records are as they were
   others_stay : NamesNone R b told → (q d : ℕ) → ¬ ((q ≡ r) × (d ≡ b)) → shown_at R T (suc n) q d ≡ shown_at R T n q d
@@ -139,16 +130,8 @@ module _ {R : Rules} {Y : Layout} {told : ℕ → Bool} {P : List ℕ} {r b at s
       → Accessed R Y told P r b at strand P
   accessed_kept none_named keeps T n records P₀ J =
       let F = J.facing in
-      holding_same J.shown (shown_at R T (suc n)) (λ q d k. stays F q d (both_or q d))
+      holding_same J.shown (shown_at R T (suc n)) (λ q d k. stays F q d (one_or_other q d r b))
     where
-      both_or : (q d : ℕ) → ((q ≡ r) × (d ≡ b)) ⊎ (¬ ((q ≡ r) × (d ≡ b)))
-      both_or q d = go (same_or_not q r) (same_or_not d b)
-        where
-          go : (q ≡ r) ⊎ (q ≢ r) → (d ≡ b) ⊎ (d ≢ b) → ((q ≡ r) × (d ≡ b)) ⊎ (¬ ((q ≡ r) × (d ≡ b)))
-          go (inl e) (inl f) = inl (e, f)
-          go (inl e) (inr f) = inr (λ z. f z.1)
-          go (inr e) y = inr (λ z. e z.0)
-
       stays : {T : Trace} {n : ℕ} (F : Facing R T n r b told) (q d : ℕ) → ((q ≡ r) × (d ≡ b)) ⊎ (¬ ((q ≡ r) × (d ≡ b)))
           → shown_at R T (suc n) q d ≡ shown_at R T n q d
       stays F q d (inl z) = rw (z.0, z.1) (own_kept F none_named keeps.0 keeps.1)

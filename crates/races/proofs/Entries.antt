@@ -3,7 +3,7 @@
 use mathlib.Core.Path.{◌≡◌, refl, sym, ◌∙◌}
 use mathlib.Core.Logic.{◌⊎◌, inl, inr, ◌≢◌}
 use mathlib.Core.List.{List}
-use mathlib.Core.Bool.{Bool, true, false, false≢true, ◌||◌, or-true}
+use mathlib.Core.Bool.{Bool, true, false, false≢true, ◌||◌}
 use mathlib.Core.Option.{Option}
 use Prim.Native.Nat.{ℕ, ◌+◌, ◌<◌}
 use native.Mathlib.Omega.{arith}
@@ -11,7 +11,7 @@ use lib.Dec.{eqb}
 use lib.ListN.{length, get_or, length-set}
 use lib.Seq.{get_or-set_same, get_or-set_other, set-get_or, lt-length-set, ext_get_or}
 use borrow.Author.Tests.{eqb-true, eqb-false, eq-eqb}
-use Rattle.jobfile.proofs.Tests.{either}
+use Rattle.std.proofs.lemmas.Bool.{or_cases, or_left, or_right}
 use Rattle.races.specs.Search.{any}
 use Rattle.races.specs.Entries.{put, event_or, strand_or, Layout, HasPlace, Laid, Holding}
 use Rattle.races.proofs.Search.{any_finds, any_has}
@@ -40,7 +40,7 @@ module _ (P : List ℕ) (p gap event strand : ℕ) where
   put_other i h h' = simp get_or-set_other
 
 -- one place or another
-one_or_other : (q d r c : ℕ) → ((q ≡ r) × (d ≡ c)) ⊎ (¬ ((q ≡ r) × (d ≡ c)))
+pub one_or_other : (q d r c : ℕ) → ((q ≡ r) × (d ≡ c)) ⊎ (¬ ((q ≡ r) × (d ≡ c)))
 one_or_other q d r c = go (eqb q r) (eqb d c) refl refl
   where
     go : (s t : Bool) → eqb q r ≡ s → eqb d c ≡ t → ((q ≡ r) × (d ≡ c)) ⊎ (¬ ((q ≡ r) × (d ≡ c)))
@@ -99,12 +99,6 @@ module _ (Y : Layout) (records i : ℕ) where
   abbrev is_entry : ℕ → ℕ → Bool
   is_entry r c = eqb i (Y.spot r c) || eqb i (Y.spot r c + Y.gap)
 
-  left_or : (a b : Bool) → a ≡ true → (a || b) ≡ true
-  left_or a b t = rw t
-
-  right_or : (a b : Bool) → b ≡ true → (a || b) ≡ true
-  right_or a b t = rw t (or-true a)
-
   entry_or_none : ((r : ℕ) × (c : ℕ) × HasPlace Y records r c × ((i ≡ Y.spot r c) ⊎ (i ≡ Y.spot r c + Y.gap)))
       ⊎ ((r c : ℕ) → HasPlace Y records r c → (i ≢ Y.spot r c) × (i ≢ Y.spot r c + Y.gap))
   entry_or_none = go (any (λ r. any (is_entry r) Y.classes) records) refl
@@ -121,15 +115,15 @@ module _ (Y : Layout) (records i : ℕ) where
             a.0,
             b.0,
             record { on_its_record = a.1; below = b.1 },
-            which a.0 b.0 (either s g b.2),
+            which a.0 b.0 (or_cases s g b.2),
           )
         where
           which : (r c : ℕ) → (eqb i (Y.spot r c) ≡ true) ⊎ (eqb i (Y.spot r c + Y.gap) ≡ true) → (i ≡ Y.spot r c) ⊎ (i ≡ Y.spot r c + Y.gap)
           which r c (inl e) = inl (eqb-true i (Y.spot r c) e)
           which r c (inr e) = inr (eqb-true i (Y.spot r c + Y.gap) e)
       go false t = inr (λ r c h. (
-        λ e. no r c h (left_or (eqb i (Y.spot r c)) (eqb i (Y.spot r c + Y.gap)) (eq-eqb i (Y.spot r c) e)),
-        λ e. no r c h (right_or (eqb i (Y.spot r c)) (eqb i (Y.spot r c + Y.gap)) (eq-eqb i (Y.spot r c + Y.gap) e)),
+        λ e. no r c h (or_left (eqb i (Y.spot r c)) (eqb i (Y.spot r c + Y.gap)) (eq-eqb i (Y.spot r c) e)),
+        λ e. no r c h (or_right (eqb i (Y.spot r c)) (eqb i (Y.spot r c + Y.gap)) (eq-eqb i (Y.spot r c + Y.gap) e)),
       ))
         where
           no : (r c : ℕ) → HasPlace Y records r c → ¬ ((eqb i (Y.spot r c) || eqb i (Y.spot r c + Y.gap)) ≡ true)

@@ -1,33 +1,30 @@
 -- A record's places are enough to find its race: while nothing has raced on the record, an access races exactly if it finds something at
 -- the places, and what it finds is a race whatever came before. Other records are not asked. Assumes nothing.
 use mathlib.Core.Path.{◌≡◌, refl, sym, ap, ◌∙◌}
-use mathlib.Core.Bool.{Bool, true, false, false≢true, ◌&&◌, and-false}
+use mathlib.Core.Bool.{true, false, false≢true, ◌&&◌, and-false}
 use mathlib.Core.Option.{Option, none, some}
 use Prim.Native.Nat.{ℕ, zero, suc, ◌<◌}
 use lib.Dec.{eqb}
 use borrow.Author.Tests.{eqb-true, eq-eqb}
-use Rattle.jobfile.proofs.Tests.{both}
+use Rattle.std.proofs.lemmas.Bool.{and_parts, and_from, false_from_ne_true}
 use Rattle.races.specs.Search.{or_here, least}
 use Rattle.races.specs.Trace.{Act, other, access, Trace, Lawful, on_record, is_of, class_of}
 use Rattle.races.specs.Rules.{Rules, Fit}
 use Rattle.races.specs.Places.{holds, par_to, in_class, held, finds, found_class, first_in, first_of, given, found}
 use Rattle.races.specs.Records.{races, raced, second_of}
-use Rattle.races.proofs.Search.{not-true, true_together, any_finds, any_has, Least, least_is, least_only}
+use Rattle.races.proofs.Search.{true_together, any_finds, any_has, Least, least_is, least_only}
 use Rattle.races.proofs.Standing.{holds_some, AllBefore, place_speaks, held_below}
-
-pub together : {a b : Bool} → a ≡ true → b ≡ true → (a && b) ≡ true
-together e f = rw (e, f)
 
 -- which access it is
 pub is_of_lem : (r c : ℕ) (a : Act) → is_of r c a ≡ true → a ≡ access r c
 is_of_lem r c other t = absurd (false≢true t)
 is_of_lem r c (access q d) t =
-    let e : q ≡ r = eqb-true q r (both (eqb q r) (eqb d c) t).0 in
-    let f : d ≡ c = eqb-true d c (both (eqb q r) (eqb d c) t).1 in
+    let e : q ≡ r = eqb-true q r (and_parts (eqb q r) (eqb d c) t).0 in
+    let f : d ≡ c = eqb-true d c (and_parts (eqb q r) (eqb d c) t).1 in
     rw (e, f)
 
 pub of_is : (r c : ℕ) → is_of r c (access r c) ≡ true
-of_is r c = together (eq-eqb r r refl) (eq-eqb c c refl)
+of_is r c = and_from _ _ (eq-eqb r r refl) (eq-eqb c c refl)
 
 on_is : (r : ℕ) (a : Act) → on_record r a ≡ true → (c : ℕ) × (a ≡ access r c)
 on_is r other t = absurd (false≢true t)
@@ -57,11 +54,11 @@ module _ (R : Rules) (T : Trace) where
       let om = on_record r (T.act m) in
       let oj = on_record r (T.act j) in
       let k = R.clash (class_of (T.act m)) (class_of (T.act j)) in
-      let t1 = (both om (oj && (k && T.par m j)) t).1 in
-      let t2 = (both oj (k && T.par m j) t1).1 in
-      let x = on_is r (T.act m) (both om (oj && (k && T.par m j)) t).0 in
-      let y = on_is r (T.act j) (both oj (k && T.par m j) t1).0 in
-      racing r m j x.0 y.0 x.1 y.1 (both k (T.par m j) t2).0 (both k (T.par m j) t2).1
+      let t1 = (and_parts om (oj && (k && T.par m j)) t).1 in
+      let t2 = (and_parts oj (k && T.par m j) t1).1 in
+      let x = on_is r (T.act m) (and_parts om (oj && (k && T.par m j)) t).0 in
+      let y = on_is r (T.act j) (and_parts oj (k && T.par m j) t1).0 in
+      racing r m j x.0 y.0 x.1 y.1 (and_parts k (T.par m j) t2).0 (and_parts k (T.par m j) t2).1
 
   pub raced_by : (r m j : ℕ) → m < j → Racing r m j → raced R T r j ≡ true
   unfolding raced
@@ -85,7 +82,7 @@ module _ (R : Rules) (T : Trace) where
   finds_parts r j c t =
       let k = R.clash c (class_of (T.act j)) in
       let h = holds (par_to T j) (held R T r c j) in
-      ((both k h t).0, holds_some (par_to T j) (held R T r c j) (both k h t).1)
+      ((and_parts k h t).0, holds_some (par_to T j) (held R T r c j) (and_parts k h t).1)
 
   first_of_lem : (r j i : ℕ) (o : Option ℕ) → Least (finds R T r j) R.classes o → first_in R T r j o ≡ some i → Finding r j i
   first_of_lem r j i none l e = absurd (false≢true (ap given e))
@@ -96,7 +93,7 @@ module _ (R : Rules) (T : Trace) where
         below = l.0;
         clash = p.0;
         holds = e;
-        parallel = let x : held R T r c j ≡ some i = e in rw x at (both (R.clash c (class_of (T.act j))) (holds (par_to T j) (held R T r c j)) l.1).1;
+        parallel = let x : held R T r c j ≡ some i = e in rw x at (and_parts (R.clash c (class_of (T.act j))) (holds (par_to T j) (held R T r c j)) l.1).1;
         smaller = l.2;
       }
 
@@ -107,7 +104,7 @@ module _ (R : Rules) (T : Trace) where
   pub finding_first : (r j i : ℕ) → Finding r j i → first_of R T r j ≡ some i
   unfolding first_of
   finding_first r j i F =
-      let t : finds R T r j F.class ≡ true = together F.clash (rw F.holds F.parallel) in
+      let t : finds R T r j F.class ≡ true = and_from _ _ F.clash (rw F.holds F.parallel) in
       let e : found_class R T r j ≡ some F.class =
       least_only (finds R T r j) R.classes (found_class R T r j) (some F.class) (least_is (finds R T r j) R.classes)
       (F.below, t, F.smaller) in
@@ -123,7 +120,7 @@ module _ (R : Rules) (T : Trace) where
   unfolding found first_of
   found_by r j b c e h t =
       let o : on_record r (T.act j) ≡ true = rw (e, eq-eqb r r refl) in
-      together o (finds_given r j c (found_class R T r j) (least_is (finds R T r j) R.classes) h t)
+      and_from _ _ o (finds_given r j c (found_class R T r j) (least_is (finds R T r j) R.classes) h t)
 
   pub found_none : (r n : ℕ) → first_of R T r n ≡ none → found R T r n ≡ false
   unfolding found
@@ -148,7 +145,7 @@ module _ (R : Rules) (T : Trace) where
   found_parts r j t =
       let o = on_record r (T.act j) in
       let g = given (first_of R T r j) in
-      (on_is r (T.act j) (both o g t).0, given_some (first_of R T r j) (both o g t).1)
+      (on_is r (T.act j) (and_parts o g t).0, given_some (first_of R T r j) (and_parts o g t).1)
 
   -- what is found is a race, whatever came before
   pub found_racing : Lawful T → (r j i : ℕ) → ((b : ℕ) × (T.act j ≡ access r b)) → first_of R T r j ≡ some i → (i < j) × Racing r i j
@@ -179,7 +176,7 @@ module _ (R : Rules) (T : Trace) where
 
     -- then the accesses of a class whose last one is kept are before one another
     chain : (r c j : ℕ) → Quiet r j → R.latest c ≡ true → AllBefore T law (in_class R T r c) j
-    chain r c j quiet t a b ab bj ca cb = not-true (T.par a b) (λ p. false≢true (sym (quiet b bj) ∙ raced_by r a b ab (record {
+    chain r c j quiet t a b ab bj ca cb = false_from_ne_true (T.par a b) (λ p. false≢true (sym (quiet b bj) ∙ raced_by r a b ab (record {
       a = c;
       b = c;
       first = is_of_lem r c (T.act a) ca;
@@ -195,7 +192,7 @@ module _ (R : Rules) (T : Trace) where
         let in_its_class : in_class R T r P.a w.0 ≡ true = rw P.first (of_is r P.a) in
         let hit = place_speaks T law (in_class R T r P.a) (R.latest P.a) j w.0 (chain r P.a j quiet) w.1 in_its_class P.parallel in
         let clash : R.clash P.a (class_of (T.act j)) ≡ true = rw P.second P.clash in
-        found_by r j P.b P.a P.second (fit.classed w.0 r P.a P.first) (together clash hit)
+        found_by r j P.b P.a P.second (fit.classed w.0 r P.a P.first) (and_from _ _ clash hit)
 
     -- the places are enough
     pub places_enough : (r j : ℕ) → Quiet r j → raced R T r j ≡ found R T r j

@@ -7,12 +7,13 @@ use mathlib.Core.Option.{Option, none, some, get_or}
 use Prim.Native.Nat.{ℕ, suc, ◌≤◌, ◌<◌}
 use native.Mathlib.Omega.{arith}
 use native.Mathlib.Decide.{dec_le}
+use Rattle.std.proofs.lemmas.Bool.{false_from_ne_true}
 use Rattle.races.specs.Search.{least}
 use Rattle.races.specs.Trace.{access, Trace, Lawful, record_of}
 use Rattle.races.specs.Rules.{Rules, Fit}
 use Rattle.races.specs.Places.{first_of, found}
 use Rattle.races.specs.Records.{clean, race, raced, second_of, PairOn, OneRace, raced_any, second_in, verdict_at, verdict_in, stop_in, Tied}
-use Rattle.races.proofs.Search.{below, not-true, Least, least_is, least_only}
+use Rattle.races.proofs.Search.{below, Least, least_is, least_only}
 use Rattle.races.proofs.Found.{raced_finds, found_some, places_enough, none_quiet}
 use Rattle.races.proofs.Records.{raced_is, RecordFree, free_quiet, second_named, named_least, named_first}
 
@@ -37,7 +38,7 @@ module _ (R : Rules) (T : Trace) where
   all_unraced n e r =
       let l : Least (raced_any R T) n none = rw e at (least_is (raced_any R T) n) in
       least_only (raced R T r) n (second_of R T r n) none (least_is (raced R T r) n)
-      (λ m h. not-true (raced R T r m) (λ t. false≢true (sym (l m h) ∙ raced_own r m t)))
+      (λ m h. false_from_ne_true (raced R T r m) (λ t. false≢true (sym (l m h) ∙ raced_own r m t)))
 
   -- and where no record has, nothing has
   pub none_together : (n : ℕ) → ((r : ℕ) → second_of R T r n ≡ none) → second_in R T n ≡ none
@@ -113,7 +114,7 @@ module _ (R : Rules) (T : Trace) (law : Lawful T) (fit : Fit R T) (Par : ℕ →
   unfolding raced_any
   least_own j l =
       let own = record_of (T.act j) in
-      (l.0, l.1, λ m h. not-true (raced R T own m) (λ t. false≢true (sym (l.2 m h) ∙ raced_own R T own m t)))
+      (l.0, l.1, λ m h. false_from_ne_true (raced R T own m) (λ t. false≢true (sym (l.2 m h) ∙ raced_own R T own m t)))
 
   least_one_race : (j : ℕ) → Least (raced_any R T) k (some j)
       → (i : ℕ) × (first_of R T (record_of (T.act j)) j ≡ some i) × OneRace R T Par k i j (record_of (T.act j))

@@ -6,11 +6,12 @@ use mathlib.Core.Option.{Option, none, some}
 use Prim.Native.Nat.{ℕ, ◌≤◌, ◌<◌}
 use native.Mathlib.Omega.{arith}
 use native.Mathlib.Decide.{dec_le}
+use Rattle.std.proofs.lemmas.Bool.{false_from_ne_true}
 use Rattle.races.specs.Trace.{Trace, Lawful}
 use Rattle.races.specs.Rules.{Rules, Fit}
 use Rattle.races.specs.Places.{in_class, finds, first_of, found}
 use Rattle.races.specs.Records.{no_pair, pair, raced, second_of, pair_at, pair_of, RaceOn, FirstOn, PairOn, Tied}
-use Rattle.races.proofs.Search.{not-true, Least, least_is, least_only}
+use Rattle.races.proofs.Search.{Least, least_is, least_only}
 use Rattle.races.proofs.Standing.{held_below}
 use Rattle.races.proofs.Found.{Racing, raced_by, raced_finds, Finding, finds_parts, first_finding, finding_first, found_parts, found_racing, Quiet, places_enough}
 
@@ -34,7 +35,7 @@ module _ (R : Rules) (T : Trace) (law : Lawful T) (fit : Fit R T) (Par : ℕ →
   RecordFree r j = (m n : ℕ) → n < j → ¬ RaceOn R T Par r m n
 
   pub free_quiet : (r j : ℕ) → j ≤ k → RecordFree r j → Quiet R T r j
-  free_quiet r j h free n l = not-true (raced R T r n) (λ t. let P = (raced_is r n (omega arith)).1 t in free P.0 n l P.1)
+  free_quiet r j h free n l = false_from_ne_true (raced R T r n) (λ t. let P = (raced_is r n (omega arith)).1 t in free P.0 n l P.1)
 
   quiet_free : (r j : ℕ) → j ≤ k → Quiet R T r j → RecordFree r j
   quiet_free r j h quiet m n l P = false≢true (sym (quiet n l) ∙ (raced_is r n (omega arith)).0 (m, P))
@@ -64,7 +65,7 @@ module _ (R : Rules) (T : Trace) (law : Lawful T) (fit : Fit R T) (Par : ℕ →
     clash = F.clash;
     holds = F.holds;
     parallel = t;
-    smaller = λ d l. not-true (finds R T r j d) (λ u.
+    smaller = λ d l. false_from_ne_true (finds R T r j d) (λ u.
         let p = finds_parts R T r j d u in
         let b = held_below T law (in_class R T r d) (R.latest d) j p.1.0 p.1.1 in
         F.smallest d p.1.0 l p.0 p.1.1 ((tie p.1.0 j b.0 h).1 p.1.2));

@@ -15,11 +15,7 @@ below P n f z m l = go (dec_le (suc m) n)
     go (yes k) = f m k
     go (no k) = let e : m ≡ n = omega arith in rw e z
 
--- what is not true is false, and two tests that are true together are equal
-pub not-true : (b : Bool) → ¬ (b ≡ true) → b ≡ false
-not-true true f = absurd (f refl)
-not-true false f = refl
-
+-- two tests that are true together are equal
 pub true_together : (a b : Bool) → (a ≡ true → b ≡ true) → (b ≡ true → a ≡ true) → a ≡ b
 true_together true b to from = sym (to refl)
 true_together false true to from = from refl

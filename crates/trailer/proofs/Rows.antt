@@ -25,7 +25,7 @@ use Rattle.trailer.specs.Rows.{distance_of, count_of, records_of, start_of, Reco
 use Rattle.trailer.proofs.Table.{first_row, not_row}
 
 -- a file of four bytes and more ends with the mark exactly if its last four bytes are the mark
-marked_is : (file : List ℕ) → Decides (ends_with nat_eq file mark) (mark ≡ drop (length file - 4) file)
+pub marked_is : (file : List ℕ) → Decides (ends_with nat_eq file mark) (mark ≡ drop (length file - 4) file)
 marked_is file = bytes_decides mark (drop (length file - 4) file)
 
 unmarked : (file : List ℕ) → ends_with nat_eq file mark ≡ false → ¬ (drop (length file - 4) file ≡ mark)

@@ -1,39 +1,39 @@
 -- `line::judged` meets its contract: the event part and the name are where the job says, the answer is judging's for all events, and the
--- text of these is the line. Assumes nothing.
-use native.Mathlib.Omega.{arith}
+-- text of these is the line. A refusal's text is the line as well. Assumes nothing.
 use mathlib.Core.Path.{sym, ◌∙◌}
-use lib.Seq.{length-take-le}
-use Rattle.jobfile.proofs.Checking.{accepted_fits}
-use Rattle.line.proofs.Parts.{pair_there, line_is, leaves_all, start_short}
+use Rattle.std.proofs.lemmas.Result.{err_from_is_err_and}
+use Rattle.line.proofs.Parts.{refused_line, leaves_none, refused_is, pair_there, line_is, leaves_all, start_short}
 use Rattle.line.proofs.judged.Goals as goal
 
-pub overflow_mul-end : goal.overflow_mul-end
-overflow_mul-end c =
-    omega (arith, accepted_fits _ _ c.requires)
+pub returns-in_err-job-clause-text_gives : goal.returns-in_err-job-clause-text_gives
+returns-in_err-job-clause-text_gives c =
+    let p = err_from_is_err_and c.from_residual.result c.from_residual.ensures.1 in
+    let refused = sym c.in_err-job.ensures.answer in
+    rw (p.1, p.2) (record { line = (refused_line _ _ _ _ _ refused).1; buffers = leaves_none _ _ _ _ _ refused _ })
 
-pub overflow_add-end : goal.overflow_add-end
-overflow_add-end c =
-    omega (arith, accepted_fits _ _ c.requires)
-
-pub slice_bounds-events-end : goal.slice_bounds-events-end
-slice_bounds-events-end c =
-    omega (arith, accepted_fits _ _ c.requires)
-
-pub slice_bounds-name-end : goal.slice_bounds-name-end
-slice_bounds-name-end c =
-    sym (length-take-le _ _ (omega (arith, accepted_fits _ _ c.requires)))
+pub returns-in_err-answer-clause-text_gives : goal.returns-in_err-answer-clause-text_gives
+returns-in_err-answer-clause-text_gives c =
+    let p = err_from_is_err_and c.from_residual-in_err-answer.result c.from_residual-in_err-answer.ensures.1 in
+    let taken = sym c.in_ok-job.ensures.answer in
+    let given = c.in_err-answer.ensures.judged in
+    rw (p.1, p.2) (record {
+      line = refused_is _ _ _ _ _ taken _ given.answer;
+      buffers = leaves_all _ _ _ _ _ taken _ given.answer _ _ given.leaves;
+    })
 
 pub answer-requires-clause-name_len_bound : goal.answer-requires-clause-name_len_bound
 answer-requires-clause-name_len_bound c =
-    start_short _ _ c.requires
+    rw c.name.ensures.bytes (start_short _ _ (sym c.in_ok-job.ensures.answer))
 
 pub answer-requires-clause-pair_within : goal.answer-requires-clause-pair_within
 answer-requires-clause-pair_within c =
-    pair_there _ _ _ _ _ c.requires _ c.judge_job-answer.ensures.judged.answer
+    rw c.part.ensures.bytes (pair_there _ _ _ _ _ (sym c.in_ok-job.ensures.answer) _ c.in_ok-answer.ensures.judged.answer)
 
-pub returns : goal.returns
-returns c =
+pub returns-clause-text_gives : goal.returns-clause-text_gives
+returns-clause-text_gives c =
+    let taken = sym c.in_ok-job.ensures.answer in
+    let given = c.in_ok-answer.ensures.judged in
     record {
-      line = c.answer.ensures ∙ line_is _ _ _ _ _ c.requires _ c.judge_job-answer.ensures.judged.answer;
-      buffers = leaves_all _ _ _ _ _ c.requires _ c.judge_job-answer.ensures.judged.answer _ _ c.judge_job-answer.ensures.judged.leaves;
+      line = (rw (c.part.ensures.bytes, c.name.ensures.bytes) at c.answer.ensures) ∙ line_is _ _ _ _ _ taken _ given.answer;
+      buffers = leaves_all _ _ _ _ _ taken _ given.answer _ _ given.leaves;
     }

@@ -1,7 +1,5 @@
 -- `answer` meets its contract: each arm puts the text of its case, and the test says whether anything is raced. Assumes nothing.
-use native.Mathlib.Omega.{arith}
-use mathlib.Core.Path.{ap, ◌∙◌}
-use lib.ListN.{length}
+use mathlib.Core.Path.{◌∙◌}
 use Rattle.bytes_at.proofs.Puts.{put_put}
 use Rattle.lines.proofs.Told.{clean_told, raced_told}
 use Rattle.lines.proofs.answers.answer.Goals as goal
@@ -10,19 +8,6 @@ pub returns-then-raced-eq0 : goal.returns-then-raced-eq0
 returns-then-raced-eq0 c =
     let line = rw (c.deref.ensures.0 ∙ c.clean.ensures) at c.put.ensures in
     rw (c.in-Judged.is, ← clean_told _ _ _ _ _ _ c.if-raced-eq0.true) line
-
-pub entries-at-requires-clause-n_in_bounds : goal.entries-at-requires-clause-n_in_bounds
-entries-at-requires-clause-n_in_bounds c =
-    let within = rw c.in-Judged.is at c.requires.answer_within in omega (arith, within.0)
-
-pub entries-at-requires-clause-entries_within : goal.entries-at-requires-clause-entries_within
-entries-at-requires-clause-entries_within c =
-    let within = rw c.in-Judged.is at c.requires.answer_within in within.1
-
-pub put-requires-in-Judged : goal.put-requires-in-Judged
-put-requires-in-Judged c =
-    let within = rw c.in-Judged.is at c.requires.answer_within in
-    omega (arith, within.0, c.entries-at.ensures.upper_bound, ap length c.deref-in-Judged.ensures.0)
 
 pub returns-else-raced-eq0 : goal.returns-else-raced-eq0
 returns-else-raced-eq0 c =

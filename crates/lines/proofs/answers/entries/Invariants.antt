@@ -1,5 +1,5 @@
--- `entries` meets its contract: after i turns the lines of the first i entries are put. The measure is what is left. Assumes nothing.
-use Prim.Native.Nat.{◌*◌, ◌≤◌, ◌-◌}
+-- `entries` meets its contract: after i turns the lines of the first i entries are put. Assumes nothing.
+use Prim.Native.Nat.{◌*◌, ◌≤◌}
 use mathlib.Core.Path.{◌≡◌}
 use lib.ListN.{length}
 use Rattle.bytes_at.specs.Put.{Put}
@@ -7,10 +7,6 @@ use Rattle.lines.specs.Text.{entries_text}
 use Rattle.lines.proofs.answers.entries.Given as goal
 
 abbrev pub invariant-loop-i : goal.invariant-loop-i
-invariant-loop-i l = (l.i ≤ l.n)
-    × (l.at ≤ 97 * l.i)
+invariant-loop-i l = (l.at ≤ 97 * l.i)
     × (length l.out ≡ length l.initial.out)
     × Put l.initial.out 0 (entries_text l.events (record { records = l.records; firsts = l.firsts; seconds = l.seconds }) l.i) l.at l.out
-
-abbrev pub decreases-loop-i : goal.decreases-loop-i
-decreases-loop-i l = l.n - l.i

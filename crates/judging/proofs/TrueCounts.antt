@@ -2,7 +2,7 @@
 use mathlib.Core.Path.{◌≡◌, refl, sym, ap, ◌∙◌}
 use mathlib.Core.Logic.{◌⊎◌, inl, inr}
 use mathlib.Core.List.{List}
-use mathlib.Core.Option.{Option, none, some}
+use Rattle.std.specs.Prelude.{Option, None, Some}
 use Prim.Native.Nat.{ℕ, zero, suc, ◌+◌, ◌-◌, ◌≤◌, ◌<◌}
 use native.Mathlib.Omega.{arith}
 use lib.ListN.{length, get_or}
@@ -28,8 +28,8 @@ diffs_same (suc n) lab = rw (diffs_same n lab, eq-eqb (get_or lab n 0) (get_or l
 -- the count of an order, by whether a strand begins
 grown_count_lem : (o : Option ℕ) (b m : ℕ) (st : State) → m ≡ b + one_at o → counted o b st ≡ m - b + diffs b st.lab (grow o b st).lab
 unfolding insert_count insert_state
-grown_count_lem none b m st e = sym (rw (diffs_same b st.lab) (omega arith))
-grown_count_lem (some a) b m st e = let z : m - b ≡ 1 = omega arith in rw z
+grown_count_lem None b m st e = sym (rw (diffs_same b st.lab) (omega arith))
+grown_count_lem (Some a) b m st e = let z : m - b ≡ 1 = omega arith in rw z
 
 -- the counts of two positions, which are the same or next to each other: event n adds the strand that it begins and each label that differs
 -- after it
