@@ -1,5 +1,5 @@
 -- One record entered: by its mark, and by the place that the mark says holds the first. Assumes nothing.
-use mathlib.Core.Path.{◌≡◌, refl, ◌∙◌}
+use mathlib.Core.Path.{◌≡◌, refl}
 use mathlib.Core.List.{List}
 use Prim.Native.Nat.{ℕ, zero, suc, ◌+◌, ◌*◌, ◌≤◌, ◌<◌}
 use native.Mathlib.Omega.{arith}
@@ -7,7 +7,7 @@ use native.Mathlib.Numerals.{add-one}
 use lib.ListN.{get_or, set}
 use Rattle.std.specs.Prelude.{None, Some}
 use Rattle.races.specs.Mark.{rank}
-use Rattle.races.specs.Records.{Pair, no_pair, pair}
+use Rattle.races.specs.Records.{Pair}
 use Rattle.per_record.specs.Lists.{Lists, LongEnough, SameLengths}
 use Rattle.per_record.specs.Listed.{has_pair, entered, pairs_below, entered_below}
 use Rattle.per_record.specs.declared.Mark.{Mark}

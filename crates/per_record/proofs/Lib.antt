@@ -4,8 +4,17 @@ pub mod MarksKept
 pub mod Listing
 pub mod Entering
 pub mod Pairs
+pub mod Rows
+pub mod Gives
 pub mod Tested
 pub mod Going
 pub mod Running
+pub mod OneAnswer
+pub mod EachRecord
+pub mod AtTheEnd
+pub mod Files
+pub mod Promise
+pub mod Demands
+pub mod Starred
 pub mod OneTurn
 pub mod OneOrder

@@ -15,7 +15,7 @@ use Rattle.jobfile.specs.Trace.{event_at}
 use Rattle.jobfile.specs.declared.event.Event.{Event}
 use Rattle.races.specs.Trace.{record_of}
 use Rattle.races.specs.Records.{second_of}
-use Rattle.races.specs.Mark.{rank, act_of, rules, event_trace}
+use Rattle.races.specs.Mark.{act_of, rules, event_trace}
 use Rattle.races.proofs.Places.{none_yet}
 use Rattle.races.proofs.Accesses.{same_or_not}
 use Rattle.taking.specs.Turns.{Still, Races, FirstFound}

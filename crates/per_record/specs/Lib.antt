@@ -7,3 +7,4 @@ pub mod Answers
 pub mod Rows
 pub mod Leaves
 pub mod Gives
+pub mod Terms

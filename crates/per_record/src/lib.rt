@@ -55,10 +55,10 @@ pub fn judge(
     buffers: &mut WorkBuffers,
     lists: &mut RaceLists,
 ) -> Result<Answer, Refusal>
-    ensures same_references { SameReferences buffers.old buffers.new }
-    ensures same_lists { SameLists lists.old lists.new }
     ensures gives { RecordsGives file.now k (lists_in buffers.old) (entries_in lists.old) result
         (lists_in buffers.new) (entries_in lists.new) }
+    ensures same_references { SameReferences buffers.old buffers.new }
+    ensures same_lists { SameLists lists.old lists.new }
 {
     let job = jobfile::check(file)?;
     judge_job(file, job, k, buffers, lists)
@@ -74,10 +74,10 @@ pub fn judge_job(
     lists: &mut RaceLists,
 ) -> Result<Answer, Refusal>
     requires { check_of file.now ≡ Ok job }
-    ensures same_references { SameReferences buffers.old buffers.new }
-    ensures same_lists { SameLists lists.old lists.new }
     ensures gives { RecordsGives file.now k (lists_in buffers.old) (entries_in lists.old) result
         (lists_in buffers.new) (entries_in lists.new) }
+    ensures same_references { SameReferences buffers.old buffers.new }
+    ensures same_lists { SameLists lists.old lists.new }
 {
     judging::judgeable(&job, k, buffers)?;
     if short(job.records, lists) {
@@ -85,7 +85,8 @@ pub fn judge_job(
     }
     let mut marks = [None; RECORDS];
     let state = run(job.part(file), k, job.records, buffers, &mut marks);
-    let raced = list(buffers.places, &marks, job.records, lists);
+    let places = &mut *buffers.places;
+    let raced = list(places, &marks, job.records, lists);
     Ok(Answer {
         raced,
         counts: state.into(),
