@@ -19,11 +19,13 @@ use Rattle.per_record.specs.Lists.{Lists}
 use Rattle.per_record.specs.Answers.{judged_all, numbers_of}
 use Rattle.per_record.specs.Gives.{RecordsGives}
 use Rattle.per_record.specs.Terms.{Listable, CountStep}
+use Rattle.std.specs.Prelude.{Result}
+use Rattle.jobfile.specs.declared.refusal.Refusal.{Refusal}
 use Rattle.per_record.specs.declared.Answer.{Answer}
 use Rattle.per_record.proofs.EachRecord.{all_rooted, fits_judged, fits_shows}
 
 module _ (file : List ℕ) (k : ℕ) (B₀ : Buffers) (L₀ : Lists) (T : Listable file k B₀ L₀)
-    (r : Answer) (B : Buffers) (L : Lists) (F : RecordsGives file k B₀ L₀ r B L) where
+    (r : Result Answer Refusal) (B : Buffers) (L : Lists) (F : RecordsGives file k B₀ L₀ r B L) where
   abbrev reported : ℕ
   reported = (numbers_of r).strands
 
@@ -61,14 +63,14 @@ module _ (file : List ℕ) (k : ℕ) (B₀ : Buffers) (L₀ : Lists) (T : Listab
       rw (hebrew_reported, strands_begun) (hebrew_bound (moves_in file) k (all_rooted file k B₀ L₀ T) (few file k B₀ T.judgeable k (omega arith)))
 
 -- "The root's counts before any event, so each count starts at 1."
-pub reports_first : (file : List ℕ) (B₀ : Buffers) (L₀ : Lists) → Listable file 0 B₀ L₀ → (r : Answer) (B : Buffers) (L : Lists)
+pub reports_first : (file : List ℕ) (B₀ : Buffers) (L₀ : Lists) → Listable file 0 B₀ L₀ → (r : Result Answer Refusal) (B : Buffers) (L : Lists)
     → RecordsGives file 0 B₀ L₀ r B L → ((numbers_of r).english ≡ 1) × ((numbers_of r).hebrew ≡ 1)
 unfolding begun_at count_at
 reports_first file B₀ L₀ T r B L F = (english_reported file 0 B₀ L₀ T r B L F, hebrew_reported file 0 B₀ L₀ T r B L F)
 
 -- the counts of a call with k events and of one with one event more, whatever their buffers held before
 pub reports_step : (file : List ℕ) (k : ℕ) (B₀ B₁ : Buffers) (L₀ L₁ : Lists) → Listable file k B₀ L₀ → Listable file (suc k) B₁ L₁
-    → (r r' : Answer) (B B' : Buffers) (L L' : Lists) → RecordsGives file k B₀ L₀ r B L → RecordsGives file (suc k) B₁ L₁ r' B' L'
+    → (r r' : Result Answer Refusal) (B B' : Buffers) (L L' : Lists) → RecordsGives file k B₀ L₀ r B L → RecordsGives file (suc k) B₁ L₁ r' B' L'
     → CountStep r r' B.labels B'.labels
 reports_step file k B₀ B₁ L₀ L₁ T T' r r' B B' L L' F F' =
     let s = strands_begun file k B₀ L₀ T r B L F in

@@ -20,6 +20,8 @@ use Rattle.judging.specs.Gives.{JudgeGives}
 use Rattle.judging.specs.Terms.{events_in, moves_in, Judgeable, Names, SaysClean, OneChain}
 use Rattle.per_record.specs.Lists.{Lists, SameLengths}
 use Rattle.per_record.specs.Listed.{Entry, SameEntry}
+use Rattle.std.specs.Prelude.{Result}
+use Rattle.jobfile.specs.declared.refusal.Refusal.{Refusal}
 use Rattle.per_record.specs.declared.Answer.{Answer}
 use Rattle.per_record.specs.Answers.{numbers_of}
 use Rattle.per_record.specs.Rows.{records_table}
@@ -32,9 +34,9 @@ use Rattle.per_record.proofs.AtTheEnd.{strands_begun, english_chain, english_in_
 -- Demand 1: the refusal is exact by the call's table, and stores nothing in any of the six buffers. That the call ends, for all arguments,
 -- and asks nothing of a caller is said of its promise as it stands in the source: proofs/Promise.antt.
 pub record Demand1 : Type 0 where
-  pub refuses : (file : List ℕ) (k : ℕ) (B₀ : Buffers) (L₀ : Lists) (r : Answer) (B : Buffers) (L : Lists) → RecordsGives file k B₀ L₀ r B L
+  pub refuses : (file : List ℕ) (k : ℕ) (B₀ : Buffers) (L₀ : Lists) (r : Result Answer Refusal) (B : Buffers) (L : Lists) → RecordsGives file k B₀ L₀ r B L
       → ExactNumbers (records_table file k B₀ L₀) (numbers_of r).refusal (numbers_of r).event
-  pub stores : (file : List ℕ) (k : ℕ) (B₀ : Buffers) (L₀ : Lists) (r : Answer) (B : Buffers) (L : Lists) → RecordsGives file k B₀ L₀ r B L
+  pub stores : (file : List ℕ) (k : ℕ) (B₀ : Buffers) (L₀ : Lists) (r : Result Answer Refusal) (B : Buffers) (L : Lists) → RecordsGives file k B₀ L₀ r B L
       → 0 < (numbers_of r).refusal → (B ≡ B₀) × (L ≡ L₀)
 
 pub demand_1 : Demand1
@@ -45,7 +47,7 @@ demand_1 = record {
 
 -- Demand 2 "for each record by itself": a record is listed exactly if the first k events hold a race on it, with the pair that the rules
 -- name within it.
-pub record Demand2 (file : List ℕ) (k : ℕ) (L₀ : Lists) (r : Answer) (B : Buffers) (L : Lists) : Type 0 where
+pub record Demand2 (file : List ℕ) (k : ℕ) (L₀ : Lists) (r : Result Answer Refusal) (B : Buffers) (L : Lists) : Type 0 where
   -- what is listed is what the rules name, and every record with a race is listed
   pub listed_named : (e : ℕ) → e < (numbers_of r).raced
       → NamedOn (events_in file) k (get_or L.firsts e 0) (get_or L.seconds e 0) (get_or L.records e 0)
@@ -61,7 +63,7 @@ pub record Demand2 (file : List ℕ) (k : ℕ) (L₀ : Lists) (r : Answer) (B : 
   pub frozen : (i j q : ℕ) → NamedOn (events_in file) k i j q → Entries (events_in file) j q B.places
   pub following : (q : ℕ) → q < record_count (check_of file) → RaceFreeOn (events_in file) q k → Entries (events_in file) k q B.places
 
-pub demand_2 : (file : List ℕ) (k : ℕ) (B₀ : Buffers) (L₀ : Lists) → Listable file k B₀ L₀ → (r : Answer) (B : Buffers) (L : Lists)
+pub demand_2 : (file : List ℕ) (k : ℕ) (B₀ : Buffers) (L₀ : Lists) → Listable file k B₀ L₀ → (r : Result Answer Refusal) (B : Buffers) (L : Lists)
     → RecordsGives file k B₀ L₀ r B L → Demand2 file k L₀ r B L
 demand_2 file k B₀ L₀ T r B L F = record {
   listed_named = listed_named file k B₀ L₀ T r B L F;
@@ -75,7 +77,7 @@ demand_2 file k B₀ L₀ T r B L F = record {
 }
 
 -- "The one-race call stays and gives the pair with the smallest second event", or clean if there is none.
-pub record SmallestSecond (r' : OneRace) (r : Answer) (L : Lists) : Type 0 where
+pub record SmallestSecond (r' : Result OneRace Refusal) (r : Result Answer Refusal) (L : Lists) : Type 0 where
   pub named_listed : (i j q : ℕ) → Names r' i j q
       → ((e : ℕ) × (e < (numbers_of r).raced) × Entry L e q i j) × ((d : ℕ) → d < (numbers_of r).raced → j ≤ get_or L.seconds d 0)
   pub listed_named : (e : ℕ) → e < (numbers_of r).raced → ((d : ℕ) → d < (numbers_of r).raced → get_or L.seconds e 0 ≤ get_or L.seconds d 0)
@@ -84,8 +86,8 @@ pub record SmallestSecond (r' : OneRace) (r : Answer) (L : Lists) : Type 0 where
   pub unlisted_clean : (numbers_of r).raced ≡ 0 → SaysClean r'
 
 pub smallest_second : (file : List ℕ) (k : ℕ) (B₀ B₁ : Buffers) (L₀ : Lists) → Listable file k B₀ L₀ → Judgeable file k B₁
-    → (r : Answer) (B : Buffers) (L : Lists) → RecordsGives file k B₀ L₀ r B L
-    → (r' : OneRace) (B' : Buffers) → JudgeGives file k B₁ r' B' → SmallestSecond r' r L
+    → (r : Result Answer Refusal) (B : Buffers) (L : Lists) → RecordsGives file k B₀ L₀ r B L
+    → (r' : Result OneRace Refusal) (B' : Buffers) → JudgeGives file k B₁ r' B' → SmallestSecond r' r L
 smallest_second file k B₀ B₁ L₀ T T' r B L F r' B' G = record {
   named_listed = judge_smallest file k B₀ L₀ T r B L F B₁ B' r' T' G;
   listed_named = smallest_judged file k B₀ L₀ T r B L F B₁ B' r' T' G;
@@ -94,7 +96,7 @@ smallest_second file k B₀ B₁ L₀ T T' r B L F r' B' G = record {
 }
 
 -- Demand 3 "up to the last event": both orders, and the counts, behind all k events.
-pub record Demand3 (file : List ℕ) (k : ℕ) (r : Answer) (B : Buffers) : Type 0 where
+pub record Demand3 (file : List ℕ) (k : ℕ) (r : Result Answer Refusal) (B : Buffers) : Type 0 where
   pub strands : (numbers_of r).strands ≡ begun_at (moves_in file) k
   pub english : OneChain (numbers_of r).strands B.labels B.links 0 0
   pub english_order : order_of B.links 0 (numbers_of r).strands 0 ≡ up_to (numbers_of r).strands
@@ -105,13 +107,13 @@ pub record Demand3 (file : List ℕ) (k : ℕ) (r : Answer) (B : Buffers) : Type
 
 -- the count is the true one: 1 before any event, and then from one call to one with an event more
 pub record TrueCounts : Type 0 where
-  pub first : (file : List ℕ) (B₀ : Buffers) (L₀ : Lists) → Listable file 0 B₀ L₀ → (r : Answer) (B : Buffers) (L : Lists)
+  pub first : (file : List ℕ) (B₀ : Buffers) (L₀ : Lists) → Listable file 0 B₀ L₀ → (r : Result Answer Refusal) (B : Buffers) (L : Lists)
       → RecordsGives file 0 B₀ L₀ r B L → ((numbers_of r).english ≡ 1) × ((numbers_of r).hebrew ≡ 1)
   pub step : (file : List ℕ) (k : ℕ) (B₀ B₁ : Buffers) (L₀ L₁ : Lists) → Listable file k B₀ L₀ → Listable file (suc k) B₁ L₁
-      → (r r' : Answer) (B B' : Buffers) (L L' : Lists) → RecordsGives file k B₀ L₀ r B L → RecordsGives file (suc k) B₁ L₁ r' B' L'
+      → (r r' : Result Answer Refusal) (B B' : Buffers) (L L' : Lists) → RecordsGives file k B₀ L₀ r B L → RecordsGives file (suc k) B₁ L₁ r' B' L'
       → CountStep r r' B.labels B'.labels
 
-pub demand_3 : ((file : List ℕ) (k : ℕ) (B₀ : Buffers) (L₀ : Lists) → Listable file k B₀ L₀ → (r : Answer) (B : Buffers) (L : Lists)
+pub demand_3 : ((file : List ℕ) (k : ℕ) (B₀ : Buffers) (L₀ : Lists) → Listable file k B₀ L₀ → (r : Result Answer Refusal) (B : Buffers) (L : Lists)
     → RecordsGives file k B₀ L₀ r B L → Demand3 file k r B)
     × TrueCounts
 demand_3 = (

@@ -25,10 +25,12 @@ use Rattle.judging.specs.Terms.{events_in, moves_in, Judgeable, Names, SaysClean
 use Rattle.judging.proofs.Judged.{rooted, no_fault, race_named, named_answered, clean_free, free_clean}
 use Rattle.per_record.specs.Lists.{Lists}
 use Rattle.per_record.specs.Listed.{Entry, InOrder, pair_in, raced_below, listed}
-use Rattle.per_record.specs.Answers.{judged_all, is_short, records_fault, records_of, numbers_of}
+use Rattle.per_record.specs.Answers.{judged_all, is_short, records_of, numbers_of}
 use Rattle.per_record.specs.Leaves.{Leaves}
 use Rattle.per_record.specs.Gives.{RecordsGives}
 use Rattle.per_record.specs.Terms.{Listable}
+use Rattle.std.specs.Prelude.{Result, Ok}
+use Rattle.jobfile.specs.declared.refusal.Refusal.{Refusal}
 use Rattle.per_record.specs.declared.Answer.{Answer}
 use Rattle.per_record.proofs.Listing.{listed_in_order}
 
@@ -43,7 +45,6 @@ module _ (file : List ℕ) (k : ℕ) (B₀ : Buffers) (L₀ : Lists) (T : Listab
   all_rooted = rooted file k B₀ T.judgeable k (omega arith)
 
   lists_long : is_short count (length L₀.records) (length L₀.firsts) (length L₀.seconds) ≡ false
-  unfolding is_short
   lists_long =
       rw (
         le-ltb (length L₀.records) count T.lists_fit.records,
@@ -52,8 +53,8 @@ module _ (file : List ℕ) (k : ℕ) (B₀ : Buffers) (L₀ : Lists) (T : Listab
       )
 
   -- the answer is that of the events
-  judged : records_of file k B₀ L₀ ≡ judged_all (events_in file) k count
-  unfolding records_of records_fault
+  judged : records_of file k B₀ L₀ ≡ Ok (judged_all (events_in file) k count)
+  unfolding records_of
   judged = rw (T.judgeable.accepted, no_fault file k B₀ T.judgeable, lists_long)
 
   -- a race's record is below the count
@@ -62,15 +63,14 @@ module _ (file : List ℕ) (k : ℕ) (B₀ : Buffers) (L₀ : Lists) (T : Listab
       let b : RecordBelow count (access_to P.second_kind P.number) =
       rw P.second at ((accepted_part file T.judgeable.job T.judgeable.accepted).record_below n (omega (arith, T.judgeable.within))) in b
 
-  module _ (r : Answer) (B : Buffers) (L : Lists) (F : RecordsGives file k B₀ L₀ r B L) where
+  module _ (r : Result Answer Refusal) (B : Buffers) (L : Lists) (F : RecordsGives file k B₀ L₀ r B L) where
     abbrev raced : ℕ
     raced = (numbers_of r).raced
 
-    pub fits_judged : r ≡ judged_all (events_in file) k count
+    pub fits_judged : r ≡ Ok (judged_all (events_in file) k count)
     fits_judged = F.answer ∙ judged
 
     pub fits_shows : Shows (events_in file) k count B₀ B × (L ≡ listed (events_in file) k L₀ count)
-    unfolding judged_all
     fits_shows =
         let left = subst (λ a. Leaves a file k B₀ L₀ B L) fits_judged F.leaves in
         (rw (← counted) left.0, left.1 ∙ rw counted)
@@ -112,7 +112,7 @@ module _ (file : List ℕ) (k : ℕ) (B₀ : Buffers) (L₀ : Lists) (T : Listab
         following_entries (events_in file) k count B₀.places B.places all_rooted fits_shows.0.places q (omega (arith, counted))
 
     -- "The one-race call [..] gives the pair with the smallest second event": what a call of `judge` answers, whatever buffers it was lent
-    module _ (B₁ B' : Buffers) (r' : OneRace) (T' : Judgeable file k B₁) (G : JudgeGives file k B₁ r' B') where
+    module _ (B₁ B' : Buffers) (r' : Result OneRace Refusal) (T' : Judgeable file k B₁) (G : JudgeGives file k B₁ r' B') where
       pub judge_smallest : (i j q : ℕ) → Names r' i j q
           → ((e : ℕ) × (e < raced) × Entry L e q i j) × ((d : ℕ) → d < raced → j ≤ get_or L.seconds d 0)
       judge_smallest i j q N =

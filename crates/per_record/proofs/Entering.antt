@@ -1,43 +1,28 @@
 -- One record entered: by its mark, and by the place that the mark says holds the first. Assumes nothing.
-use mathlib.Core.Path.{◌≡◌, refl, ◌∙◌}
-use mathlib.Core.Logic.{◌≢◌}
+use mathlib.Core.Path.{◌≡◌, refl}
 use mathlib.Core.List.{List}
 use Prim.Native.Nat.{ℕ, zero, suc, ◌+◌, ◌*◌, ◌≤◌, ◌<◌}
 use native.Mathlib.Omega.{arith}
 use native.Mathlib.Numerals.{add-one}
 use lib.ListN.{get_or, set}
-use borrow.Author.Tests.{eq-eqb, ne_eqb}
-use Rattle.jobfile.specs.declared.event.Kind.{Kind}
+use Rattle.std.specs.Prelude.{None, Some}
 use Rattle.races.specs.Mark.{rank}
-use Rattle.races.specs.Records.{Pair, no_pair, pair}
+use Rattle.races.specs.Records.{Pair}
 use Rattle.per_record.specs.Lists.{Lists, LongEnough, SameLengths}
 use Rattle.per_record.specs.Listed.{has_pair, entered, pairs_below, entered_below}
-use Rattle.per_record.specs.Marks.{kind_in, second_in, pair_held}
+use Rattle.per_record.specs.declared.Mark.{Mark}
+use Rattle.per_record.specs.Marks.{Marks, mark_in, pair_held}
 use Rattle.per_record.proofs.Listing.{below_at_most, listed_lengths}
 
-module _ (M P : List ℕ) (r : ℕ) where
-  pub unmarked : get_or M r 0 ≡ 4294967295 → pair_held M P r ≡ no_pair
-  unfolding pair_held
-  unmarked e = rw (eq-eqb (get_or M r 0) 4294967295 e)
+module _ (M : Marks) (P : List ℕ) (r n : ℕ) (L : Lists) where
+  pub not_entered : mark_in M r ≡ None → (n ≡ n + has_pair (pair_held M P r)) × (L ≡ entered (pair_held M P r) r n L)
+  not_entered e = rw e (omega arith, refl)
 
-  pub marked : get_or M r 0 ≢ 4294967295
-      → pair_held M P r ≡ pair (get_or P (8192 * rank (kind_in (get_or M r 0)) + r) 0) (second_in (get_or M r 0))
-  unfolding pair_held
-  marked e = rw (ne_eqb (get_or M r 0) 4294967295 e)
-
-  module _ (n : ℕ) (L : Lists) where
-    pub not_entered : get_or M r 0 ≡ 4294967295 → (n ≡ n + has_pair (pair_held M P r)) × (L ≡ entered (pair_held M P r) r n L)
-    not_entered e = rw (unmarked e) (omega arith, refl)
-
-    -- with what was read: the kind that the mark tells, what the place of that kind holds, and the second
-    pub is_entered : get_or M r 0 ≢ 4294967295 → (kind : Kind) → kind ≡ kind_in (get_or M r 0) → (f : ℕ) → f ≡ get_or P (8192 * rank kind + r) 0
-        → (s : ℕ) → s ≡ second_in (get_or M r 0)
-        → (n + 1 ≡ n + has_pair (pair_held M P r))
-        × (record { records = set L.records n r; firsts = set L.firsts n f; seconds = set L.seconds n s }
-        ≡ entered (pair_held M P r) r n L)
-    is_entered e kind k f g s h =
-        let first : f ≡ get_or P (8192 * rank (kind_in (get_or M r 0)) + r) 0 = g ∙ rw k in
-        rw (marked e, first, h) (refl, refl)
+  -- with what the place holds whose kind the mark tells
+  pub is_entered : (m : Mark) → mark_in M r ≡ Some m → (f : ℕ) → f ≡ get_or P (8192 * rank m.kind + r) 0
+      → (n + 1 ≡ n + has_pair (pair_held M P r))
+      × (record { records = set L.records n r; firsts = set L.firsts n f; seconds = set L.seconds n m.second } ≡ entered (pair_held M P r) r n L)
+  is_entered m e f g = rw (e, g) (refl, refl)
 
 -- one record more
 module _ (pairs : ℕ → Pair) (r : ℕ) where

@@ -9,7 +9,8 @@ use Prim.Native.Nat.{ℕ, suc, ◌+◌, ◌-◌, ◌≤◌, ◌<◌}
 use native.Mathlib.Omega.{arith}
 use native.Mathlib.Decide.{dec_le}
 use native.Mathlib.Numerals.{add-one}
-use lib.ListN.{get_or, set}
+use lib.ListN.{set}
+use Rattle.std.specs.Prelude.{Some}
 use Rattle.jobfile.specs.Accepted.{RecordBelow}
 use Rattle.jobfile.specs.Events.{access_of}
 use Rattle.jobfile.specs.Trace.{event_at, moves}
@@ -19,14 +20,15 @@ use Rattle.jobfile.proofs.Accesses.{access_stays}
 use Rattle.strands.specs.Memory.{OpenTasks}
 use Rattle.strands.specs.declared.Now.{Now}
 use Rattle.races.specs.Records.{second_of}
-use Rattle.races.specs.Mark.{rank, rules, event_trace}
+use Rattle.races.specs.Mark.{rules, event_trace}
 use Rattle.taking.specs.Buffers.{Buffers}
 use Rattle.taking.specs.Turns.{Run, Fresh, Races, Runs, Runnable, Went, tasks_over, Reaches, Findable, FirstFound}
 use Rattle.taking.specs.declared.Reach.{Reach}
 use Rattle.taking.specs.declared.Found.{Found}
 use Rattle.taking.proofs.Reaching.{tasks_none}
 use Rattle.taking.proofs.Turned.{frozen_midway, raced_midway, frozen_still}
-use Rattle.per_record.specs.Marks.{mark_of, of_marked, frozen_at, HasMark, stretch_end, FirstFrom}
+use Rattle.per_record.specs.Marks.{Marks, mark_in, of_marked, frozen_at, HasMark, stretch_end, FirstFrom}
+use Rattle.per_record.specs.declared.Mark.{Mark}
 use Rattle.per_record.specs.Goes.{Going, MayGo, past_frozen, past_all, past_race, Goes}
 use Rattle.per_record.proofs.Stretches.{stretch_bounds}
 use Rattle.per_record.proofs.Tested.{marked_access, unmarked_access}
@@ -56,20 +58,19 @@ has_mark {records = records} R m l kind r e =
     omega (arith, b, R.records_within)
 
 -- before event i of a run
-module _ {part : List ℕ} {records k : ℕ} {B₀ B : Buffers} {T : OpenTasks} {M : List ℕ} {now : Now} {i : ℕ} (G : Going part records k B₀ B T M now i) where
+module _ {part : List ℕ} {records k : ℕ} {B₀ B : Buffers} {T : OpenTasks} {M : Marks} {now : Now} {i : ℕ} (G : Going part records k B₀ B T M now i) where
   -- event i is an access of a frozen record
   frozen_raced : i < k → frozen_at part M i ≡ true
       → (kind : Kind) × (r j : ℕ) × (access_of (event_at part i) ≡ access_to kind r) × (second_of rules (event_trace (event_at part)) r i ≡ some j)
   frozen_raced l t =
       let w = marked_access M (access_of (event_at part i)) t in
-      let s = marked_raced G.marked (omega (arith, G.run.within, G.run.small)) w.1 (has_mark G.run i l w.0 w.1 w.2) w.3 in
-      (w.0, w.1, s.0, w.2, s.1)
+      let s = marked_raced G.marked w.1 (has_mark G.run i l w.0 w.1 w.3) w.2 w.4 in
+      (w.0, w.1, s.0, w.3, s.1)
 
   -- event m is none
   fresh_event : i ≤ k → (m : ℕ) → m < k → frozen_at part M m ≡ false → Fresh part i m
   fresh_event h m l f kind r e =
-      unmarked_unraced G.marked (omega (arith, G.run.within, G.run.small)) r (has_mark G.run m l kind r e)
-      (unmarked_access (get_or M r 0) (sym (ap (of_marked M) e) ∙ f))
+      unmarked_unraced G.marked r (has_mark G.run m l kind r e) (unmarked_access (mark_in M r) (sym (ap (of_marked M) e) ∙ f))
 
   -- the events up to the end of the stretch may be run
   stretch_runs : {to : ℕ} → i < k → FirstFrom (frozen_at part M) i (stretch_end i k) to → Runs part i to records k B₀ B T now
@@ -93,7 +94,7 @@ module _ {part : List ℕ} {records k : ℕ} {B₀ B : Buffers} {T : OpenTasks} 
         marked = still_marked part i (suc i) M (frozen_still part i w.0 w.1 w.2 w.3 w.4) G.marked;
       }
 
-module _ {part M : List ℕ} {i k : ℕ} {B : Buffers} {T : OpenTasks} {now : Now} (A : MayGo part i k B T M now) (to : ℕ)
+module _ {part : List ℕ} {M : Marks} {i k : ℕ} {B : Buffers} {T : OpenTasks} {now : Now} (A : MayGo part i k B T M now) (to : ℕ)
     (S : FirstFrom (frozen_at part M) i (stretch_end i k) to) where
   pub goes_past_frozen : to ≡ i → Goes part i k B T M now B T M (record { at = i + 1; state = now })
   goes_past_frozen z =
@@ -160,8 +161,8 @@ module _ {part M : List ℕ} {i k : ℕ} {B : Buffers} {T : OpenTasks} {now : No
         pub mark_there : found.«record» < 4096
         mark_there = rw (its_number raced found F) (has_mark A.going.run reach.at within_run raced.kind raced.number raced.is_an_access)
 
-        pub goes_past_race : (m : ℕ) → m ≡ mark_of (rank found.kind) reach.at
-            → Goes part i k B T M now B' T' (set M found.«record» m) (record { at = reach.at + 1; state = reach.state })
+        pub goes_past_race : (m : Mark) → m ≡ record { kind = found.kind; second = reach.at }
+            → Goes part i k B T M now B' T' (set M found.«record» (Some m)) (record { at = reach.at + 1; state = reach.state })
         goes_past_race m e = rw (add-one reach.at) (record {
           went = λ records B₀ G.
               let w = went_on records B₀ G in

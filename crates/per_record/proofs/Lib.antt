@@ -1,4 +1,3 @@
-pub mod Faults
 pub mod Stretches
 pub mod Marking
 pub mod MarksKept

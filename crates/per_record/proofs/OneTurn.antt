@@ -7,6 +7,7 @@ use Prim.Native.Nat.{ℕ, suc, ◌≤◌, ◌<◌}
 use native.Mathlib.Omega.{arith}
 use native.Mathlib.Decide.{dec_le}
 use lib.Seq.{ext_get_or}
+use Rattle.std.specs.Prelude.{None}
 use Rattle.jobfile.specs.Trace.{event_at}
 use Rattle.jobfile.specs.declared.event.Event.{Event}
 use Rattle.races.specs.Records.{raced, second_of}
@@ -14,14 +15,14 @@ use Rattle.races.specs.Mark.{rules, event_trace}
 use Rattle.races.proofs.Search.{Least, least_is}
 use Rattle.taking.specs.Turns.{Still, Races}
 use Rattle.taking.proofs.Turned.{raced_second}
-use Rattle.per_record.specs.Marks.{Marked, frozen_at, stretch_end, FirstFrom}
+use Rattle.per_record.specs.Marks.{Marks, Marked, frozen_at, stretch_end, FirstFrom}
 use Rattle.per_record.specs.Goes.{Stop, past_frozen, past_all, past_race}
 use Rattle.per_record.proofs.Stretches.{first_once}
 
 -- one contents of the marks
-pub marks_once : (ev : ℕ → Event) (i : ℕ) (M M' : List ℕ) → Marked ev i M → Marked ev i M' → M ≡ M'
+pub marks_once : (ev : ℕ → Event) (i : ℕ) (M M' : Marks) → Marked ev i M → Marked ev i M' → M ≡ M'
 marks_once ev i M M' S S' =
-    ext_get_or 0 M M' (S.size ∙ sym S'.size) (λ r l. S.marks r (omega (arith, S.size)) ∙ sym (S'.marks r (omega (arith, S.size))))
+    ext_get_or None M M' (S.size ∙ sym S'.size) (λ r l. S.marks r (omega (arith, S.size)) ∙ sym (S'.marks r (omega (arith, S.size))))
 
 -- an event that races on the way is not passed
 module _ (part : List ℕ) (i n m : ℕ) (W : Races part n) where
@@ -42,7 +43,7 @@ module _ (part : List ℕ) (i : ℕ) where
       go (yes a) (no b) = absurd (not_still part i m n W (omega arith) s t)
       go (no a) b = absurd (not_still part i n m W' (omega arith) t s)
 
-module _ (part M : List ℕ) (i k : ℕ) where
+module _ (part : List ℕ) (M : Marks) (i k : ℕ) where
   -- a stretch that goes on does not start at an access of a frozen record
   goes_on : {to : ℕ} → FirstFrom (frozen_at part M) i (stretch_end i k) to → i < to → ¬ (frozen_at part M i ≡ true)
   goes_on F l t = false≢true (sym (F.passed i (omega arith) l) ∙ t)

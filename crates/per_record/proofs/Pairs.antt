@@ -6,6 +6,7 @@ use mathlib.Core.Option.{Option, none, some}
 use Prim.Native.Nat.{ℕ, zero, suc, ◌+◌, ◌*◌, ◌≤◌, ◌<◌}
 use native.Mathlib.Omega.{arith}
 use lib.ListN.{get_or}
+use Rattle.std.specs.Prelude.{None, Some}
 use Rattle.jobfile.specs.declared.event.Event.{Event}
 use Rattle.jobfile.specs.declared.event.Kind.{Kind}
 use Rattle.jobfile.specs.declared.event.Kind.TheVariants.{Write, Read}
@@ -17,9 +18,8 @@ use Rattle.races.proofs.Search.{Least, least_is}
 use Rattle.races.proofs.Found.{found_parts, places_enough}
 use Rattle.races.proofs.Events.{lawful, fit}
 use Rattle.per_record.specs.Listed.{pair_in}
-use Rattle.per_record.specs.Marks.{mark_of, Marked, pair_held}
-use Rattle.per_record.proofs.Marking.{kind_back, second_back, mark_fits}
-use Rattle.per_record.proofs.Entering.{unmarked, marked}
+use Rattle.per_record.specs.Marks.{Marks, mark_in, mark_of, Marked, pair_held}
+use Rattle.per_record.proofs.Marking.{kind_back}
 
 -- the kind of a class
 kind_of_class : (c : ℕ) → c < 2 → (kind : Kind) × (rank kind ≡ c)
@@ -57,22 +57,20 @@ module _ (ev : ℕ → Event) (r k : ℕ) where
       let f = (found_parts rules T r j t).1 in
       finds_first j f.0 l.0 f.1 (found_class rules T r j) refl (least_is (finds rules T r j) 2)
 
-  module _ {records : ℕ} {M P₀ P : List ℕ} (marks : Marked ev k M) (shown : Shown rules (event_trace ev) layout k records P₀ P)
-      (few : k ≤ 1000000) (below : r < records) (fit : records ≤ 4096) where
+  module _ {records : ℕ} {M : Marks} {P₀ P : List ℕ} (marks : Marked ev k M) (shown : Shown rules (event_trace ev) layout k records P₀ P)
+      (below : r < records) (fit : records ≤ 4096) where
     held_none : second_of rules (event_trace ev) r k ≡ none → pair_held M P r ≡ pair_in ev k r
     unfolding pair_of
-    held_none e = unmarked M P r (marks.marks r (omega arith) ∙ rw e) ∙ rw e
+    held_none e = let m : mark_in M r ≡ None = marks.marks r (omega arith) ∙ rw e in rw (m, e) refl
 
     held_some : (j : ℕ) → second_of rules (event_trace ev) r k ≡ some j → pair_held M P r ≡ pair_in ev k r
     unfolding pair_of stop_of
     held_some j e =
         let F = second_finds j e in
-        let small : j < 1000000 = omega (arith, F.within) in
-        let m : get_or M r 0 ≡ mark_of (rank F.kind) j = marks.marks r (omega arith) ∙ rw (e, F.class) in
+        let m : mark_in M r ≡ Some (mark_of (rank F.kind) j) = marks.marks r (omega arith) ∙ rw (e, F.class) in
         let event : get_or P (8192 * rank F.kind + r) 0 ≡ F.first =
         shown.event r (rank F.kind) (record { on_its_record = below; below = rank_below F.kind }) ∙ rw (e, F.holds) in
-        marked M P r (λ z. omega (arith, m, mark_fits j small F.kind))
-        ∙ rw (m, kind_back j small F.kind, second_back j small F.kind, event, e, F.names)
+        rw (m, kind_back F.kind, event, e, F.names) refl
 
     pub pair_held_lem : pair_held M P r ≡ pair_in ev k r
     pair_held_lem = go (second_of rules (event_trace ev) r k) refl

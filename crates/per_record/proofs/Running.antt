@@ -13,18 +13,18 @@ use Rattle.races.specs.Mark.{layout}
 use Rattle.taking.specs.Buffers.{Buffers, orders_in}
 use Rattle.taking.specs.Turns.{Run}
 use Rattle.judging.proofs.Running.{starts}
-use Rattle.per_record.specs.Marks.{Marked}
+use Rattle.per_record.specs.Marks.{Marks, Marked}
 use Rattle.per_record.specs.Goes.{Going, Ran}
 
 -- before any event
-pub begins : {part : List ℕ} {records k : ℕ} {B₀ B : Buffers} {T : OpenTasks} {M : List ℕ} {now : Now} → Run part records k
+pub begins : {part : List ℕ} {records k : ℕ} {B₀ B : Buffers} {T : OpenTasks} {M : Marks} {now : Now} → Run part records k
     → Reached (moves (event_at part)) 0 (orders_in B₀) (orders_in B) T now → Empty layout records B₀.places B.places → 16384 ≤ length B₀.places
     → Marked (event_at part) 0 M → Going part records k B₀ B T M now 0
 begins {part = part} {records = records} {B₀ = B₀} {B = B} {T = T} {now = now} R S empty room marks =
     record { run = R; midway = starts part records B₀ B T now S empty room; marked = marks }
 
 -- all k events are behind
-pub ends : {part : List ℕ} {records k : ℕ} {B₀ B : Buffers} {T : OpenTasks} {M : List ℕ} {now : Now} {i : ℕ} → Going part records k B₀ B T M now i
+pub ends : {part : List ℕ} {records k : ℕ} {B₀ B : Buffers} {T : OpenTasks} {M : Marks} {now : Now} {i : ℕ} → Going part records k B₀ B T M now i
     → i ≤ k → k ≤ i → Ran (event_at part) k records B₀ B M now
 ends {part = part} {records = records} {k = k} {B₀ = B₀} {B = B} {T = T} {M = M} {now = now} {i = i} G within past =
     let same : i ≡ k = omega arith in

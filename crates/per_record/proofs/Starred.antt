@@ -17,8 +17,7 @@ use Rattle.races.specs.Places.{held_of, first_of}
 use Rattle.races.specs.Records.{races, raced, pair_of}
 use Rattle.per_record.specs.Lists.{Lists}
 use Rattle.per_record.specs.Listed.{pairs_below, entered_below, listed}
-use Rattle.per_record.specs.Answers.{judged_all}
-use Rattle.per_record.specs.declared.Answer.TheVariants.{Judged}
+use Rattle.per_record.specs.Answers.{answer_of, judged_all}
 
 -- lists of three entries that hold 9
 abbrev nines : List ℕ
@@ -32,7 +31,7 @@ abbrev two_records : List Event
 two_records = Spawn ∷ Write 1 ∷ Write 0 ∷ End ∷ Write 1 ∷ Write 0 ∷ []
 
 -- record 0: 2, 5; record 1: 1, 4; the third entry stays
-pub two_listed : (judged_all (events two_records) 6 3 ≡ Judged 2 3 3 3)
+pub two_listed : (judged_all (events two_records) 6 3 ≡ answer_of 2 3 3 3)
     × (listed (events two_records) 6 lent 3 ≡ record { records = 0 ∷ 1 ∷ 9 ∷ []; firsts = 2 ∷ 1 ∷ 9 ∷ []; seconds = 5 ∷ 4 ∷ 9 ∷ [] })
 unfolding judged_all pairs_below entered_below pair_of tasks_at begun_at opened move_at walk_for walk any least races raced held_of first_of cells state_at count_at insert_after differ ceiling limit gap_at has_room middle spread insert_lab insert_state diffs insert_count
 two_listed = (refl, refl)
@@ -50,16 +49,16 @@ first_entries job = first (listed (events job) (length job) lent 1)
         front (x ∷ xs) more = x ∷ more
 
 pub starred_answers : map (λ (job : List Event). judged_all (events job) (length job) 1) cases
-    ≡ Judged 0 1 1 1
-    ∷ Judged 0 1 1 1
-    ∷ Judged 1 3 3 3
-    ∷ Judged 0 4 4 4
-    ∷ Judged 1 3 3 3
-    ∷ Judged 1 3 3 3
-    ∷ Judged 1 5 5 5
-    ∷ Judged 0 6 6 6
-    ∷ Judged 1 6 6 6
-    ∷ Judged 1 5 5 5
+    ≡ answer_of 0 1 1 1
+    ∷ answer_of 0 1 1 1
+    ∷ answer_of 1 3 3 3
+    ∷ answer_of 0 4 4 4
+    ∷ answer_of 1 3 3 3
+    ∷ answer_of 1 3 3 3
+    ∷ answer_of 1 5 5 5
+    ∷ answer_of 0 6 6 6
+    ∷ answer_of 1 6 6 6
+    ∷ answer_of 1 5 5 5
     ∷ []
 unfolding judged_all pairs_below pair_of tasks_at begun_at opened move_at walk_for walk any least races raced held_of first_of cells state_at count_at insert_after differ ceiling limit gap_at has_room middle spread insert_lab insert_state diffs insert_count
 starred_answers = refl

@@ -1,28 +1,14 @@
 -- How far a stretch goes: to the first access of a frozen record, and no further than its end or k. Assumes nothing.
-use Prim.Native.Nat.{ℕ, suc, ◌+◌, ◌-◌, ◌≤◌, ◌<◌}
+use Prim.Native.Nat.{ℕ, suc, ◌+◌, ◌≤◌, ◌<◌}
 use mathlib.Core.Path.{◌≡◌, sym, ◌∙◌}
 use mathlib.Core.Bool.{Bool, false, false≢true}
 use native.Mathlib.Omega.{arith}
 use native.Mathlib.Decide.{dec_le}
-use borrow.Author.Tests.{lt-ltb, le-ltb}
 use Rattle.per_record.specs.Marks.{stretch_end, FirstFrom}
 
-module _ (from k : ℕ) where
-  pub to_the_end : k - from < 64 → k ≡ stretch_end from k
-  unfolding stretch_end
-  to_the_end h = rw (lt-ltb (k - from) 64 h)
-
-  pub whole_stretch : 64 ≤ k - from → from + 64 ≡ stretch_end from k
-  unfolding stretch_end
-  whole_stretch h = rw (le-ltb (k - from) 64 h)
-
-  -- from an event within k it goes on, and stays within
-  pub stretch_bounds : from < k → (from < stretch_end from k) × (stretch_end from k ≤ k)
-  stretch_bounds h = go (dec_le 64 (k - from))
-    where
-      go : Dec (64 ≤ k - from) → (from < stretch_end from k) × (stretch_end from k ≤ k)
-      go (yes g) = (omega (arith, whole_stretch g), omega (arith, whole_stretch g))
-      go (no g) = let e = to_the_end (omega arith) in (omega arith, omega arith)
+-- from an event within k it goes on, and stays within
+pub stretch_bounds : (from k : ℕ) → from < k → (from < stretch_end from k) × (stretch_end from k ≤ k)
+stretch_bounds from k h = (omega arith, omega arith)
 
 -- one more event that does not pass
 pub passed_more : {test : ℕ → Bool} {from r : ℕ} → ((m : ℕ) → from ≤ m → m < r → test m ≡ false) → test r ≡ false

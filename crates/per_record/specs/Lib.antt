@@ -1,4 +1,5 @@
 pub mod Lists
+pub mod RaceLists
 pub mod Listed
 pub mod Marks
 pub mod Goes

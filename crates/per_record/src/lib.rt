@@ -3,37 +3,46 @@
 // Every byte string, every k and buffers and lists of any length are dealt with. A refusal stores nothing.
 #![tactic(auto)]
 
-ghost use Rattle.std.specs.Prelude.{◌≡◌, ℕ, ◌+◌, ◌*◌, ◌≤◌, ◌<◌, length};
-ghost use Rattle.jobfile.specs.Lent.{was, is};
+ghost use Rattle.std.specs.Prelude.{◌≡◌, ℕ, ◌+◌, ◌*◌, ◌≤◌, ◌<◌, length, Ok};
 ghost use Rattle.jobfile.specs.File.{check_of};
 ghost use Rattle.jobfile.specs.Trace.{event_at};
-ghost use Rattle.jobfile.specs.declared.Checked.TheVariants.{Accepted};
-ghost use Rattle.strands.specs.Memory.{tasks};
-ghost use Rattle.races.specs.Mark.{rank};
-ghost use Rattle.taking.specs.Buffers.{buffers, before, after};
+ghost use Rattle.taking.specs.WorkBuffers.{lists_in, SameReferences};
 ghost use Rattle.taking.specs.Turns.{Run};
-ghost use Rattle.per_record.specs.Lists.{lists, lists_before, lists_after, LongEnough};
+ghost use Rattle.per_record.specs.Lists.{LongEnough};
+ghost use Rattle.per_record.specs.RaceLists.{entries_in, SameLists};
 ghost use Rattle.per_record.specs.Listed.{has_pair, entered, pairs_below, entered_below};
 ghost use Rattle.per_record.specs.Answers.{is_short};
-ghost use Rattle.per_record.specs.Marks.{mark_of, kind_in, second_in, Marked, frozen_at, HasMark, stretch_end, FirstFrom, pair_held};
-ghost use Rattle.per_record.specs.Goes.{MayGo, GoesOn, Ran};
+ghost use Rattle.per_record.specs.Marks.{Marked, frozen_at, HasMark, stretch_end, FirstFrom, pair_held};
+ghost use Rattle.per_record.specs.Goes.{MayGo, Goes, Ran};
 ghost use Rattle.per_record.specs.Gives.{RecordsGives};
 
-use jobfile::{Access, Checked, Job, Kind, Refusal};
-use limits::{EVENTS, NO_PLACE, NO_STRAND, OPEN_TASKS, RECORDS};
-use strands::Now;
-use taking::{Reach, until_race};
+use jobfile::{Job, Kind, Refusal};
+use judging::Counts;
+use limits::{OPEN_TASKS, RECORDS};
+use strands::{Now, OpenTask, ROOT};
+use taking::{Reach, WorkBuffers, until_race};
+use trailer::Fault;
 
-// How many records raced, the strands begun and both label counts; or a refusal.
+// How many records raced, and the strands begun with both label counts.
+#[derive(Clone, Copy, Debug, PartialEq, Eq)]
+pub struct Answer {
+    pub raced: usize,
+    pub counts: Counts,
+}
+
+// The three lists, as they are lent.
+#[derive(Drop)]
+pub struct RaceLists<'a> {
+    pub records: &'a mut [u32],
+    pub firsts: &'a mut [u32],
+    pub seconds: &'a mut [u32],
+}
+
+// The mark of a record that has raced: which kind of its places holds the first, and which event was the second.
 #[derive(Clone, Copy)]
-pub enum Answer {
-    Judged {
-        raced: usize,
-        strands: usize,
-        english: usize,
-        hebrew: usize,
-    },
-    Refused(Refusal),
+pub struct Mark {
+    pub kind: Kind,
+    pub second: u32,
 }
 
 // How many events are looked at for accesses of frozen records before they are run. A race on the way has the rest looked at again.
@@ -43,22 +52,16 @@ const STRETCH: usize = 64;
 pub fn judge(
     file: &[u8],
     k: usize,
-    labels: &mut [u64],
-    links: &mut [u16],
-    places: &mut [u32],
-    records: &mut [u32],
-    firsts: &mut [u32],
-    seconds: &mut [u32],
-) -> Answer
-    ensures { RecordsGives file.now k (before labels links places) (lists_before records firsts seconds) result
-        (after labels links places) (lists_after records firsts seconds) }
+    buffers: &mut WorkBuffers,
+    lists: &mut RaceLists,
+) -> Result<Answer, Refusal>
+    ensures gives { RecordsGives file.now k (lists_in buffers.old) (entries_in lists.old) result
+        (lists_in buffers.new) (entries_in lists.new) }
+    ensures same_references { SameReferences buffers.old buffers.new }
+    ensures same_lists { SameLists lists.old lists.new }
 {
-    match jobfile::check(file) {
-        Checked::Refused(r) => Answer::Refused(r),
-        Checked::Accepted(job) => judge_job(
-            file, job, k, labels, links, places, records, firsts, seconds,
-        ),
-    }
+    let job = jobfile::check(file)?;
+    judge_job(file, job, k, buffers, lists)
 }
 
 // The same for a file that has been checked, with what the check gave.
@@ -67,195 +70,140 @@ pub fn judge_job(
     file: &[u8],
     job: Job,
     k: usize,
-    labels: &mut [u64],
-    links: &mut [u16],
-    places: &mut [u32],
-    records: &mut [u32],
-    firsts: &mut [u32],
-    seconds: &mut [u32],
-) -> Answer
-    requires { check_of file.now ≡ Accepted job }
-    ensures { RecordsGives file.now k (before labels links places) (lists_before records firsts seconds) result
-        (after labels links places) (lists_after records firsts seconds) }
+    buffers: &mut WorkBuffers,
+    lists: &mut RaceLists,
+) -> Result<Answer, Refusal>
+    requires { check_of file.now ≡ Ok job }
+    ensures gives { RecordsGives file.now k (lists_in buffers.old) (entries_in lists.old) result
+        (lists_in buffers.new) (entries_in lists.new) }
+    ensures same_references { SameReferences buffers.old buffers.new }
+    ensures same_lists { SameLists lists.old lists.new }
 {
-    let fault = judging::judge_fault(job, k, labels.len(), links.len(), places.len());
-    if fault != 0 {
-        return Answer::Refused(jobfile::refuse(fault, 0));
+    judging::judgeable(&job, k, buffers)?;
+    if short(job.records, lists) {
+        return Err(Fault::ShortOutput.into());
     }
-    if short(job.records, records.len(), firsts.len(), seconds.len()) {
-        return Answer::Refused(jobfile::refuse(16, 0));
-    }
-    let start = job.start;
-    let end = start + 4 * job.events;
-    let mut marks = [NO_PLACE; RECORDS];
-    let state = run(
-        &file[start..end],
-        k,
-        job.records,
-        labels,
-        links,
-        places,
-        &mut marks,
-    );
-    let raced = list(places, &marks, job.records, records, firsts, seconds);
-    Answer::Judged {
+    let mut marks = [None; RECORDS];
+    let state = run(job.part(file), k, job.records, buffers, &mut marks);
+    let places = &mut *buffers.places;
+    let raced = list(places, &marks, job.records, lists);
+    Ok(Answer {
         raced,
-        strands: state.strands,
-        english: state.english,
-        hebrew: state.hebrew,
-    }
+        counts: state.into(),
+    })
 }
 
 // 16: a list is shorter than the record count.
-fn short(count: usize, records: usize, firsts: usize, seconds: usize) -> bool
-    ensures { result ≡ is_short count records firsts seconds }
+fn short(count: usize, lists: &RaceLists) -> bool
+    ensures { result ≡ is_short count (length lists.now.records.now) (length lists.now.firsts.now) (length lists.now.seconds.now) }
 {
-    if records < count {
-        return true;
-    }
-    if firsts < count {
-        return true;
-    }
-    seconds < count
+    (lists.records.len() < count) | (lists.firsts.len() < count) | (lists.seconds.len() < count)
 }
 
-// Runs over the first k events, past every race. The mark of a record that has raced says which event was the second, and which of the
-// record's places holds the first; that record is frozen, and its accesses are left alone from then on.
+// Runs over the first k events, past every race. A record that has raced is marked; it is frozen, and its accesses are left alone from then
+// on. Which event is next `go_on` says, so nothing is counted here.
 fn run(
     part: &[u8],
     k: usize,
     records: usize,
-    labels: &mut [u64],
-    links: &mut [u16],
-    places: &mut [u32],
-    marks: &mut [u32; RECORDS],
+    buffers: &mut WorkBuffers,
+    marks: &mut [Option<Mark>; RECORDS],
 ) -> Now
     requires run { Run part.now records k }
-    requires in_bounds { (8192 ≤ length labels.old) × (16384 ≤ length links.old) × (16384 ≤ length places.old) }
+    requires in_bounds { (8192 ≤ length buffers.old.labels.now) × (16384 ≤ length buffers.old.links.now) × (16384 ≤ length buffers.old.places.now) }
     requires marked { Marked (event_at part.now) 0 marks.old }
-    ensures { Ran (event_at part.now) k records (before labels links places) (after labels links places) (is marks) result }
+    ensures same_references { SameReferences buffers.old buffers.new }
+    ensures ran { Ran (event_at part.now) k records (lists_in buffers.old) (lists_in buffers.new) marks.new result }
 {
-    races::clear(places, records);
-    let mut lasts = [0; OPEN_TASKS];
-    let mut joins = [NO_STRAND; OPEN_TASKS];
-    let mut state = strands::begin(labels, links);
-    let mut i = 0;
-    while i < k {
-        let reach = go_on(
-            part, i, k, state, &mut lasts, &mut joins, labels, links, places, marks,
-        );
-        state = reach.state;
-        i = reach.at;
+    races::clear(buffers.places, records);
+    let mut tasks = [ROOT; OPEN_TASKS];
+    let state = strands::begin(buffers.labels, buffers.links);
+    let mut next = Reach { at: 0, state };
+    while next.at < k {
+        next = go_on(part, k, next, &mut tasks, buffers, marks);
     }
-    state
+    next.state
 }
 
-// Goes on from event i: past an access of a frozen record, or to the end of a stretch, or past the race on the way.
+// Goes on from the event that is next: past an access of a frozen record, or to the end of a stretch, or past the race on the way.
 fn go_on(
     part: &[u8],
-    i: usize,
     k: usize,
-    state: Now,
-    lasts: &mut [usize; OPEN_TASKS],
-    joins: &mut [usize; OPEN_TASKS],
-    labels: &mut [u64],
-    links: &mut [u16],
-    places: &mut [u32],
-    marks: &mut [u32; RECORDS],
+    next: Reach,
+    tasks: &mut [OpenTask; OPEN_TASKS],
+    buffers: &mut WorkBuffers,
+    marks: &mut [Option<Mark>; RECORDS],
 ) -> Reach
-    requires { MayGo part.now i k (buffers labels links places) (tasks lasts joins) marks.old state }
-    ensures { GoesOn part.now i k state lasts joins labels links places marks result }
+    requires { MayGo part.now next.at k (lists_in buffers.old) tasks.old marks.old next.state }
+    ensures same_references { SameReferences buffers.old buffers.new }
+    ensures goes { Goes part.now next.at k (lists_in buffers.old) tasks.old marks.old next.state
+        (lists_in buffers.new) tasks.new marks.new result }
 {
-    let to = stretch(part, i, k, marks);
-    if to == i {
-        return Reach { at: i + 1, state };
+    let to = stretch(part, next.at, k, marks);
+    if to == next.at {
+        return Reach {
+            at: next.at + 1,
+            state: next.state,
+        };
     }
-    let reach = until_race(part, i, to, state, lasts, joins, labels, links, places);
+    let reach = until_race(part, next.at, to, next.state, tasks, buffers);
     if reach.at == to {
         return reach;
     }
-    let state = reach.state;
-    let found = taking::find(part, reach.at, state, labels, places);
-    let kind = found.kind;
-    let record = found.record;
-    marks[record] = mark(kind, reach.at);
+    let found = taking::find(part, reach.at, reach.state, buffers);
+    marks[found.record] = Some(Mark {
+        kind: found.kind,
+        second: reach.at as u32,
+    });
     Reach {
         at: reach.at + 1,
-        state,
+        state: reach.state,
     }
 }
 
 // Up to which event from `from` on no access is of a frozen record; no further than a stretch, nor than k.
-fn stretch(part: &[u8], from: usize, k: usize, marks: &[u32; RECORDS]) -> usize
+fn stretch(part: &[u8], from: usize, k: usize, marks: &[Option<Mark>; RECORDS]) -> usize
     requires from_lt_k { (from < k) × (4 * k ≤ length part.now) }
     requires by_index { (i : ℕ) → i < k → HasMark part.now i }
     ensures { FirstFrom (frozen_at part.now marks.now) from (stretch_end from k) result }
 {
-    let most = within(from, k);
-    let mut i = from;
-    while i < most {
+    let most = k.min(from + STRETCH);
+    for i in from..most {
         if frozen(part, i, marks) {
             return i;
         }
-        i += 1;
     }
-    i
-}
-
-// The end of a stretch, if it is within k.
-fn within(from: usize, k: usize) -> usize
-    requires { from < k }
-    ensures value { result ≡ stretch_end from k }
-    ensures lower_bound { (from < result) × (result ≤ k) }
-{
-    if k - from < STRETCH {
-        return k;
-    }
-    from + STRETCH
+    most
 }
 
 // Whether event i is an access of a frozen record.
-fn frozen(part: &[u8], i: usize, marks: &[u32; RECORDS]) -> bool
+fn frozen(part: &[u8], i: usize, marks: &[Option<Mark>; RECORDS]) -> bool
     requires i_in_bounds { 4 * i + 4 ≤ length part.now }
     requires has_mark { HasMark part.now i }
     ensures { result ≡ frozen_at part.now marks.now i }
 {
     match jobfile::access_of(jobfile::event_at(part, i)) {
-        Access::To { kind: _, record } => marks[record as usize] != NO_PLACE,
-        Access::None => false,
-    }
-}
-
-// The mark of a record: the second of its race, and EVENTS more if the place of the standing read holds the first.
-fn mark(kind: Kind, second: usize) -> u32
-    requires { second < 1000000 }
-    ensures { result ≡ mark_of (rank kind) second }
-{
-    match kind {
-        Kind::Write => second as u32,
-        Kind::Read => (EVENTS + second) as u32,
+        Some(access) => marks[access.record as usize].is_some(),
+        None => false,
     }
 }
 
 // Lists the raced ones of the first `count` records, and says how many they are.
 fn list(
     places: &[u32],
-    marks: &[u32; RECORDS],
+    marks: &[Option<Mark>; RECORDS],
     count: usize,
-    records: &mut [u32],
-    firsts: &mut [u32],
-    seconds: &mut [u32],
+    lists: &mut RaceLists,
 ) -> usize
     requires count_bound { (count ≤ 4096) × (16384 ≤ length places.now) }
-    requires long_enough { LongEnough count (lists records firsts seconds) }
+    requires long_enough { LongEnough count (entries_in lists.old) }
+    ensures same_lists { SameLists lists.old lists.new }
     ensures value { result ≡ pairs_below (pair_held marks.now places.now) count }
-    ensures seconds_value { lists_after records firsts seconds ≡ entered_below (pair_held marks.now places.now) (lists_before records firsts seconds) count }
+    ensures entered { entries_in lists.new ≡ entered_below (pair_held marks.now places.now) (entries_in lists.old) count }
 {
     let mut n = 0;
-    let mut r = 0;
-    while r < count {
-        n = enter(places, marks, r, n, records, firsts, seconds);
-        r += 1;
+    for r in 0..count {
+        n = enter(places, marks, r, n, lists);
     }
     n
 }
@@ -263,45 +211,25 @@ fn list(
 // Enters record r behind the n that are listed, if it has raced.
 fn enter(
     places: &[u32],
-    marks: &[u32; RECORDS],
+    marks: &[Option<Mark>; RECORDS],
     r: usize,
     n: usize,
-    records: &mut [u32],
-    firsts: &mut [u32],
-    seconds: &mut [u32],
+    lists: &mut RaceLists,
 ) -> usize
     requires r_bound { (r < 4096) × (16384 ≤ length places.now) }
-    requires long_enough { LongEnough (n + 1) (lists records firsts seconds) }
+    requires long_enough { LongEnough (n + 1) (entries_in lists.old) }
+    ensures same_lists { SameLists lists.old lists.new }
     ensures value { result ≡ n + has_pair (pair_held marks.now places.now r) }
-    ensures seconds_value { lists_after records firsts seconds ≡ entered (pair_held marks.now places.now r) r n (lists_before records firsts seconds) }
+    ensures entered { entries_in lists.new ≡ entered (pair_held marks.now places.now r) r n (entries_in lists.old) }
 {
-    let mark = marks[r];
-    if mark == NO_PLACE {
-        return n;
+    match marks[r] {
+        Some(mark) => {
+            let kind = mark.kind;
+            lists.records[n] = r as u32;
+            lists.firsts[n] = races::held(places, kind, r) as u32;
+            lists.seconds[n] = mark.second;
+            n + 1
+        }
+        None => n,
     }
-    let kind = kind_in(mark);
-    records[n] = r as u32;
-    firsts[n] = races::held(places, kind, r) as u32;
-    seconds[n] = second_in(mark);
-    n + 1
-}
-
-// Which kind of place holds the first, by a record's mark.
-fn kind_in(mark: u32) -> Kind
-    ensures { result ≡ kind_in mark }
-{
-    if (mark as usize) < EVENTS {
-        return Kind::Write;
-    }
-    Kind::Read
-}
-
-// Which event was the second, by a record's mark.
-fn second_in(mark: u32) -> u32
-    ensures { result ≡ second_in mark }
-{
-    if (mark as usize) < EVENTS {
-        return mark;
-    }
-    mark - EVENTS as u32
 }
