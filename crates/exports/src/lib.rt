@@ -10,12 +10,12 @@ ghost use Rattle.jobfile.specs.File.{check_of, event_count};
 ghost use Rattle.jobfile.specs.Refusals.{number_in};
 ghost use Rattle.relation.specs.Question.{question_of};
 ghost use Rattle.taking.specs.Buffers.{before, after};
-ghost use Rattle.per_record.specs.Lists.{lists_before, lists_after};
+ghost use Rattle.exports.specs.LentLists.{lists_before, lists_after};
 ghost use Rattle.exports.specs.Numbers.{read_numbers, write_numbers, question_numbers, judge_numbers, records_numbers};
 ghost use Rattle.exports.specs.Gives.{WriteCallGives, JudgeCallGives, RecordsCallGives};
 
 use jobfile::{Job, Refusal};
-use per_record::Lists;
+use per_record::RaceLists;
 use relation::Related;
 use taking::WorkBuffers;
 
@@ -91,17 +91,12 @@ pub extern "C" fn rz_judge_records(
         links,
         places,
     };
-    let mut lists = Lists {
+    let mut lists = RaceLists {
         records,
         firsts,
         seconds,
     };
-    *answer = records_numbers(per_record::judge(
-        file,
-        k as usize,
-        &mut buffers,
-        &mut lists,
-    ));
+    *answer = records_numbers(per_record::judge(file, k as usize, &mut buffers, &mut lists));
 }
 
 // The numbers of a refusal, in an answer of so many: zeros behind its number and its event.
@@ -173,12 +168,14 @@ fn judge_numbers(a: Result<judging::Answer, Refusal>) -> [u64; 9]
             counts.english as u64,
             counts.hebrew as u64,
         ],
-        Ok(judging::Answer::Race {
-            first,
-            second,
-            record,
-            counts,
-        }) => [
+        Ok(
+            judging::Answer::Race {
+                first,
+                second,
+                record,
+                counts,
+            },
+        ) => [
             0,
             0,
             1,
