@@ -5,18 +5,17 @@ use mathlib.Core.List.{List}
 use Prim.Native.Nat.{ℕ}
 use lib.ListN.{length}
 use Rattle.jobfile.specs.File.{check_of, event_count}
-use Rattle.jobfile.specs.declared.Checked.{Checked}
-use Rattle.jobfile.specs.declared.Checked.TheVariants.{Accepted, Refused as Unread}
+use Rattle.std.specs.Prelude.{Option, None, Some, Result, Ok, Err}
+use Rattle.jobfile.specs.declared.job.Job.{Job}
+use Rattle.jobfile.specs.declared.refusal.Refusal.{Refusal}
 use Rattle.taking.specs.Buffers.{Buffers}
 use Rattle.per_record.specs.Lists.{Lists, SameLengths}
 use Rattle.per_record.specs.Answers.{after_check, records_of}
 use Rattle.per_record.proofs.Gives.{records_gives}
 use Rattle.per_record.proofs.OneAnswer.{records_once}
-use Rattle.line.specs.declared.Lined.{Lined}
-use Rattle.line.specs.declared.Lined.TheVariants.{Bytes, Short}
 use Rattle.lines.specs.Lines.{answer_of, lines_of, LeavesFor, LinesGives}
 
-pub lines_once : (input : List ℕ) (B₀ : Buffers) (L₀ : Lists) (out₀ : List ℕ) (r r' : Lined) (B B' : Buffers) (L L' : Lists) (out out' : List ℕ)
+pub lines_once : (input : List ℕ) (B₀ : Buffers) (L₀ : Lists) (out₀ : List ℕ) (r r' : Option ℕ) (B B' : Buffers) (L L' : Lists) (out out' : List ℕ)
     → LinesGives input B₀ L₀ out₀ r B L out → LinesGives input B₀ L₀ out₀ r' B' L' out'
     → (r ≡ r') × (out ≡ out') × (B ≡ B') × (L ≡ L')
 lines_once input B₀ L₀ out₀ r r' B B' L L' out out' G G' =
@@ -24,13 +23,13 @@ lines_once input B₀ L₀ out₀ r r' B B' L L' out out' G G' =
     let w = by r G.leaves (rw (← same) at G'.leaves) in
     (same, G.output ∙ sym G'.output, w.0, w.1)
   where
-    by : (a : Lined) → LeavesFor a input B₀ L₀ B L → LeavesFor a input B₀ L₀ B' L' → (B ≡ B') × (L ≡ L')
-    by (Bytes n) S S' =
+    by : (a : Option ℕ) → LeavesFor a input B₀ L₀ B L → LeavesFor a input B₀ L₀ B' L' → (B ≡ B') × (L ≡ L')
+    by (Some n) S S' =
         let a = answer_of input B₀ L₀ in
         let k = event_count (check_of input) in
         let w = records_once input k B₀ L₀ a a B B' L L' (records_gives input k B₀ L₀ a B L refl S) (records_gives input k B₀ L₀ a B' L' refl S') in
         (w.1, w.2)
-    by Short S S' = (S.0 ∙ sym S'.0, S.1 ∙ sym S'.1)
+    by None S S' = (S.0 ∙ sym S'.0, S.1 ∙ sym S'.1)
 
 -- buffers and lists of the same lengths: the same text
 pub lengths_count : (input : List ℕ) (B B' : Buffers) (L L' : Lists) → length B.labels ≡ length B'.labels
@@ -38,6 +37,6 @@ pub lengths_count : (input : List ℕ) (B B' : Buffers) (L L' : Lists) → lengt
 unfolding lines_of records_of
 lengths_count input B B' L L' labels links places S = rw (same (check_of input))
   where
-    same : (c : Checked) → after_check c input (event_count c) B L ≡ after_check c input (event_count c) B' L'
-    same (Accepted j) = rw (labels, links, places, S.records, S.firsts, S.seconds)
-    same (Unread r) = refl
+    same : (c : Result Job Refusal) → after_check c input (event_count c) B L ≡ after_check c input (event_count c) B' L'
+    same (Ok j) = rw (labels, links, places, S.records, S.firsts, S.seconds)
+    same (Err r) = refl

@@ -4,7 +4,7 @@ use mathlib.Core.Path.{◌≡◌, refl}
 use mathlib.Core.List.{List, [], ◌∷◌, ◌++◌, map}
 use Rattle.jobfile.specs.Coding.{event_of}
 use Rattle.jobfile.specs.Trace.{event_at, tasks_at, begun_at}
-use Rattle.trailer.specs.Trailer.{word_at, starts_with, printable, trailer_fault, head_named, head_sized, head_of}
+use Rattle.trailer.specs.Trailer.{word_at, printable, start_in, head_sized, head_of}
 use Rattle.jobfile.specs.Tasks.{task_fault, record_fault, step_on, move_on, finish, trace_from}
 use Rattle.jobfile.specs.File.{check_of}
 use Rattle.jobfile.specs.Samples.{l4}
@@ -16,9 +16,9 @@ use Rattle.strands.specs.States.{state_at, count_at}
 use Rattle.races.specs.Search.{any, least}
 use Rattle.races.specs.Places.{held_of, first_of}
 use Rattle.races.specs.Records.{races, raced, pair_of}
-use Rattle.judging.specs.Answers.{no_room, judge_fault}
+use Rattle.judging.specs.Answers.{no_room, judgeable}
 use Rattle.per_record.specs.Listed.{pairs_below}
-use Rattle.per_record.specs.Answers.{judged_all, is_short, records_fault, records_of}
+use Rattle.per_record.specs.Answers.{judged_all, records_of}
 use Rattle.line.specs.Text.{ascii, digits_within, pair_text, kinds_text, counts_text, name_text, refusal_text}
 use Rattle.line.proofs.Lines.{empty_job}
 use Rattle.lines.specs.Text.{entry_text, pair_lines, judged_text}
@@ -55,5 +55,5 @@ pub small_texts : texts (two_of_three ∷ l4 ∷ empty_job ∷ [] ∷ [])
     ∷ ascii "clean strands 1 english 1 hebrew 1 name \n"
     ∷ ascii "refused 1 event 0\n"
     ∷ [])
-unfolding lines_of entry_text pair_lines judged_text digits_within pair_text kinds_text counts_text name_text refusal_text records_of records_fault is_short judged_all pairs_below judge_fault no_room check_of head_of head_sized head_named trailer_fault printable starts_with word_at trace_from finish step_on move_on task_fault record_fault event_of event_at tasks_at begun_at opened move_at walk_for walk any least races raced held_of first_of pair_of cells state_at count_at insert_after differ ceiling limit gap_at has_room middle spread insert_lab insert_state diffs insert_count
+unfolding lines_of entry_text pair_lines judged_text digits_within pair_text kinds_text counts_text name_text refusal_text records_of judged_all pairs_below judgeable no_room check_of head_of head_sized start_in printable word_at trace_from finish step_on move_on task_fault record_fault event_of event_at tasks_at begun_at opened move_at walk_for walk any least races raced held_of first_of pair_of cells state_at count_at insert_after differ ceiling limit gap_at has_room middle spread insert_lab insert_state diffs insert_count
 small_texts = refl

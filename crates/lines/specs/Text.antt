@@ -1,12 +1,11 @@
 -- The lines of the raced records and the last line as bytes, and the text of each answer.
-use Rattle.std.specs.Prelude.{ℕ, zero, suc, ◌+◌, ◌*◌, ◌≤◌, ◌<◌, cond, List, [], ◌++◌, eqb, get_or}
+use Rattle.std.specs.Prelude.{ℕ, zero, suc, ◌+◌, ◌*◌, ◌≤◌, ◌<◌, cond, List, [], ◌++◌, eqb, get_or, Result, Ok, Err}
 use Rattle.jobfile.specs.Trace.{event_at}
 use Rattle.jobfile.specs.Events.{access_of}
 use Rattle.races.specs.Records.{Pair, no_pair, pair}
 use Rattle.per_record.specs.Lists.{Lists, LongEnough}
-use Rattle.per_record.specs.Answers.{numbers_of}
 use Rattle.per_record.specs.declared.Answer.{Answer}
-use Rattle.per_record.specs.declared.Answer.TheVariants.{Judged, Refused}
+use Rattle.jobfile.specs.declared.refusal.Refusal.{Refusal}
 use Rattle.line.specs.Text.{ascii, digits_of, pair_text, kinds_text, counts_text, name_text, clean_text, refusal_text}
 
 -- `race record R first I second J kinds XY`
@@ -34,9 +33,12 @@ judged_text lines raced strands english hebrew name =
     cond (eqb raced 0) (clean_text strands english hebrew name) (lines ++ raced_text raced strands english hebrew name)
 
 -- the text of an answer, for the lines of the records and the name of the file
-abbrev pub answer_text : Answer → List ℕ → List ℕ → List ℕ
-answer_text (Judged raced strands english hebrew) lines name = judged_text lines raced strands english hebrew name
-answer_text (Refused r) lines name = refusal_text r
+abbrev pub text_with : Answer → List ℕ → List ℕ → List ℕ
+text_with a lines name = judged_text lines a.raced a.counts.strands a.counts.english a.counts.hebrew name
+
+abbrev pub answer_text : Result Answer Refusal → List ℕ → List ℕ → List ℕ
+answer_text (Ok a) lines name = text_with a lines name
+answer_text (Err r) lines name = refusal_text r
 
 -- the lines of the first n entries of the lists, as they are put: these are the lines of the raced records (`entries_are_pairs`)
 unfoldable pub entries_text : List ℕ → Lists → ℕ → List ℕ
@@ -46,7 +48,7 @@ entries_text events L (suc n) =
 
 -- the text of an answer with the lines of the entries that it counts
 abbrev pub listed_text : Answer → List ℕ → Lists → List ℕ → List ℕ
-listed_text a events L name = answer_text a (entries_text events L (numbers_of a).raced) name
+listed_text a events L name = text_with a (entries_text events L a.raced) name
 
 -- the first n entries are there, and the events of each are within so many bytes of events
 pub record EntriesWithin (room : ℕ) (L : Lists) (n : ℕ) : Type 0 where
@@ -54,7 +56,6 @@ pub record EntriesWithin (room : ℕ) (L : Lists) (n : ℕ) : Type 0 where
   pub first_within : (m : ℕ) → m < n → 4 * get_or L.firsts m 0 + 4 ≤ room
   pub second_within : (m : ℕ) → m < n → 4 * get_or L.seconds m 0 + 4 ≤ room
 
--- so are those of an answer that counts raced records, and they are as many as a job can have at most
+-- so are those that an answer counts, and they are as many as a job can have at most
 abbrev pub AnswerWithin : Answer → ℕ → Lists → Type 0
-AnswerWithin (Judged raced strands english hebrew) room L = (raced ≤ 4096) × EntriesWithin room L raced
-AnswerWithin (Refused r) room L = Unit {0}
+AnswerWithin a room L = (a.raced ≤ 4096) × EntriesWithin room L a.raced

@@ -6,90 +6,73 @@
 
 mod answers;
 
-ghost use Rattle.std.specs.Prelude.{◌≡◌, ◌≤◌, length};
-ghost use Rattle.jobfile.specs.File.{check_of};
+ghost use Rattle.std.specs.Prelude.{◌≤◌, length};
+ghost use Rattle.std.specs.Result.{MatchResult};
 ghost use Rattle.jobfile.specs.Lent.{was, is};
-ghost use Rattle.jobfile.specs.declared.Checked.TheVariants.{Accepted};
-ghost use Rattle.taking.specs.Buffers.{before, after};
-ghost use Rattle.per_record.specs.Lists.{lists_before, lists_after};
-ghost use Rattle.lines.specs.Lines.{LinesFit, LinesGives, TextGives};
+ghost use Rattle.taking.specs.WorkBuffers.{lists_in, SameReferences};
+ghost use Rattle.per_record.specs.RaceLists.{entries_in, SameLists};
+ghost use Rattle.lines.specs.Lines.{LinesFit, LinesGives, TextGives, RefusalGives};
 
 use bytes_at::put;
-use jobfile::{Checked, Job};
+use jobfile::Refusal;
 use limits::RECORDS;
-use line::Lined;
+use per_record::RaceLists;
+use taking::WorkBuffers;
 
 // Room for every text: a line for each record that a job can have, and the last one.
 pub const ROOM: usize = 97 * RECORDS + 183;
 
-// The lines for all events of the input, at the start of `out`; what is behind them stays. The work buffers and the lists are left as
-// `per_record` leaves them. The text is put where it is asked for, since it may have hundreds of thousands of bytes and its length
-// shows only once all is judged: so an output that has no room for every text is refused ahead of that, and nothing is stored.
+// The lines for all events of the input, at the start of `out`: how many bytes they have, or None where the output is too short; what is
+// behind them stays. The work buffers and the lists are left as `per_record` leaves them. The text is put where it is asked for, since it
+// may have hundreds of thousands of bytes and its length shows only once all is judged: so an output that has no room for every text is
+// refused ahead of that, and nothing is stored.
 pub fn lines(
     input: &[u8],
-    labels: &mut [u64],
-    links: &mut [u16],
-    places: &mut [u32],
-    records: &mut [u32],
-    firsts: &mut [u32],
-    seconds: &mut [u32],
+    buffers: &mut WorkBuffers,
+    lists: &mut RaceLists,
     out: &mut [u8],
-) -> Lined
-    ensures lines_gives { LinesGives input.now (before labels links places) (lists_before records firsts seconds) (was out) result (after labels links places) (lists_after records firsts seconds) (is out) }
+) -> Option<usize>
+    ensures lines_gives { LinesGives input.now (lists_in buffers.old) (entries_in lists.old) (was out) result (lists_in buffers.new) (entries_in lists.new) (is out) }
     ensures lines_fit { LinesFit result (is out) }
+    ensures same_references { SameReferences buffers.old buffers.new }
+    ensures same_lists { SameLists lists.old lists.new }
 {
     if out.len() < ROOM {
-        return Lined::Short;
+        return None;
     }
-    Lined::Bytes(text_of(out, input, labels, links, places, records, firsts, seconds))
+    Some(text_of(out, input, buffers, lists))
 }
 
-// The text at the start of a buffer that has room for every text. The events are walked twice: by the check, and by judging.
+// The text at the start of a buffer that has room for every text.
 // requires: there is room for the longest text.
-fn text_of(
-    out: &mut [u8],
-    input: &[u8],
-    labels: &mut [u64],
-    links: &mut [u16],
-    places: &mut [u32],
-    records: &mut [u32],
-    firsts: &mut [u32],
-    seconds: &mut [u32],
-) -> usize
+fn text_of(out: &mut [u8], input: &[u8], buffers: &mut WorkBuffers, lists: &mut RaceLists) -> usize
     requires { 397495 ≤ length out.old }
-    ensures { TextGives input.now (before labels links places) (lists_before records firsts seconds) (was out) result (after labels links places) (lists_after records firsts seconds) (is out) }
+    ensures text_gives { TextGives input.now (lists_in buffers.old) (entries_in lists.old) (was out) result (lists_in buffers.new) (entries_in lists.new) (is out) }
+    ensures same_references { SameReferences buffers.old buffers.new }
+    ensures same_lists { SameLists lists.old lists.new }
 {
-    match jobfile::check(input) {
-        Checked::Refused(r) => put(out, 0, &line::refusal(r)),
-        Checked::Accepted(job) => judged(
-            out, input, job, labels, links, places, records, firsts, seconds,
-        ),
+    match judged(out, input, buffers, lists) {
+        Ok(n) => n,
+        Err(r) => put(out, 0, &line::refusal(r)),
     }
 }
 
-// The same for an input that has been checked.
-// requires: as `text_of`, and the job is what the check of this very input gives.
+// The same for an input that is not refused; a refusal puts nothing. The events are walked twice: by the check, and by judging.
+// requires: as `text_of`.
 fn judged(
     out: &mut [u8],
     input: &[u8],
-    job: Job,
-    labels: &mut [u64],
-    links: &mut [u16],
-    places: &mut [u32],
-    records: &mut [u32],
-    firsts: &mut [u32],
-    seconds: &mut [u32],
-) -> usize
-    requires in_bounds { 397495 ≤ length out.old }
-    requires input_value { check_of input.now ≡ Accepted job }
-    ensures { TextGives input.now (before labels links places) (lists_before records firsts seconds) (was out) result (after labels links places) (lists_after records firsts seconds) (is out) }
+    buffers: &mut WorkBuffers,
+    lists: &mut RaceLists,
+) -> Result<usize, Refusal>
+    requires { 397495 ≤ length out.old }
+    ensures judged_gives { MatchResult result
+        (λ n. TextGives input.now (lists_in buffers.old) (entries_in lists.old) (was out) n (lists_in buffers.new) (entries_in lists.new) (is out))
+        (λ r. RefusalGives input.now (lists_in buffers.old) (entries_in lists.old) (was out) r (lists_in buffers.new) (entries_in lists.new) (is out)) }
+    ensures same_references { SameReferences buffers.old buffers.new }
+    ensures same_lists { SameLists lists.old lists.new }
 {
-    let start = job.start;
-    let end = start + 4 * job.events;
-    let events = &input[start..end];
-    let name = &input[..start];
-    let answer = per_record::judge_job(
-        input, job, job.events, labels, links, places, records, firsts, seconds,
-    );
-    answers::answer(out, answer, events, name, records, firsts, seconds)
+    let job = jobfile::check(input)?;
+    let answer = per_record::judge_job(input, job, job.events, buffers, lists)?;
+    Ok(answers::answer(out, answer, job.part(input), job.name(input), lists))
 }

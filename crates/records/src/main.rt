@@ -9,10 +9,11 @@ ghost use Rattle.bytes_at.specs.Put.{Put};
 ghost use Rattle.records.specs.Printed.{printed_of};
 
 use bytes_at::put;
-use input::{Input, MOST};
-use line::Lined;
+use input::MOST;
 use lines::ROOM;
+use per_record::RaceLists;
 use std::io::{Eprint, Print};
+use taking::WorkBuffers;
 
 // What is printed for the input, at the start of `out`; answers how many bytes.
 // requires: there is room for the longest text.
@@ -30,20 +31,17 @@ fn printed(input: &[u8], out: &mut [u8]) -> usize
     let mut records = [0u32; limits::RECORDS];
     let mut firsts = [0u32; limits::RECORDS];
     let mut seconds = [0u32; limits::RECORDS];
-    let lined = lines::lines(
-        input,
-        &mut labels,
-        &mut links,
-        &mut places,
-        &mut records,
-        &mut firsts,
-        &mut seconds,
-        out,
-    );
-    match lined {
-        Lined::Bytes(n) => n,
-        Lined::Short => 0,
-    }
+    let mut buffers = WorkBuffers {
+        labels: &mut labels,
+        links: &mut links,
+        places: &mut places,
+    };
+    let mut lists = RaceLists {
+        records: &mut records,
+        firsts: &mut firsts,
+        seconds: &mut seconds,
+    };
+    lines::lines(input, &mut buffers, &mut lists, out).unwrap_or(0)
 }
 
 // One byte more than the program takes shows that there are too many. What failed is told in the system's words; that this cannot be told
@@ -52,11 +50,11 @@ fn main(rt: HostRuntime) {
     let mut buffer = [0u8; MOST + 1];
     let mut out = [0u8; ROOM];
     let (what, done) = match input::read(&mut rt.stdin(), &mut buffer) {
-        Input::Bytes(n) => {
+        Ok(n) => {
             let length = printed(&buffer[..n], &mut out);
             ("standard output", rt.write_all(&out[..length]))
         }
-        Input::Failed(e) => ("standard input", Err(e)),
+        Err(e) => ("standard input", Err(e)),
     };
     if let Err(why) = done {
         let _ = match format!(in rt.alloc(); "{why}") {

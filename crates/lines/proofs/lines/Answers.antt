@@ -10,8 +10,8 @@ returns-then-out-lt-ROOM-clause-lines_gives c =
 
 pub returns-clause-lines_gives : goal.returns-clause-lines_gives
 returns-clause-lines_gives c =
-    let all = delivered _ c.args.out.now _ _ (omega arith) c.text_of.ensures.text in record { answer = all.0; output = all.1.0; leaves = c.text_of.ensures.leaves }
+    let all = delivered _ c.args.out.now _ _ (omega arith) c.text_of.ensures.text_gives.text in record { answer = all.0; output = all.1.0; leaves = c.text_of.ensures.text_gives.leaves }
 
 pub returns-clause-lines_fit : goal.returns-clause-lines_fit
 returns-clause-lines_fit c =
-    let all = delivered _ c.args.out.now _ _ (omega arith) c.text_of.ensures.text in all.1.1
+    let all = delivered _ c.args.out.now _ _ (omega arith) c.text_of.ensures.text_gives.text in all.1.1

@@ -11,7 +11,6 @@ loop-i-init c =
 
 pub loop-i-preserved : goal.loop-i-preserved
 loop-i-preserved c =
-    let text = rw (c.wide.ensures, c.wide-in-loop-i.ensures, c.wide-in-loop-i-2.ensures) at c.entry-line.ensures.value in
-    let line = rw (c.deref.ensures.0 ∙ text) at c.put-at.ensures in
+    let line = rw (c.deref.ensures.0 ∙ c.entry-line.ensures.value) at c.put-at.ensures in
     let short = ap length c.deref.ensures.0 in
     (omega (arith, short, c.put-at.ensures.count, c.entry-line.ensures.upper_bound), omega arith, entries_more _ _ _ c.loop-i.invariant.2 line)
