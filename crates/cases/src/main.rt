@@ -6,9 +6,10 @@ ghost use Rattle.std.specs.Prelude.{◌+◌, ◌≤◌, length};
 ghost use Rattle.jobfile.specs.Lent.{is};
 ghost use Rattle.io.specs.Counts.{IsPrefixLen};
 
+use jobfile::Refusal;
 use judging::Answer;
-use std::io::{Print, Result};
-use writing::Written;
+use std::io::{Print, Result as Printed};
+use taking::WorkBuffers;
 
 // A job and how often it stands in a row.
 type Repeated<'a> = (usize, &'a str);
@@ -26,26 +27,24 @@ const SMALL: [&str; 9] = [
     "S W0 E S J W0 E",
 ];
 
-fn report<R: Print>(rt: &R, answer: Answer) -> Result<()> {
+fn report<R: Print>(rt: &R, answer: Result<Answer, Refusal>) -> Printed<()> {
     match answer {
-        Answer::Clean {
-            strands,
-            english,
-            hebrew,
-        } => println!(rt; ": clean strands {strands} english {english} hebrew {hebrew}"),
-        Answer::Race {
-            first,
-            second,
-            record,
-            strands,
-            english,
-            hebrew,
-        } => {
-            println!(rt;
-                ": race {first} {second} record {record} strands {strands} english {english} hebrew {hebrew}"
-            )
-        }
-        Answer::Refused(r) => println!(rt; ": refused {} event {}", r.number, r.event),
+        Ok(Answer::Clean(c)) => println!(rt;
+            ": clean strands {} english {} hebrew {}",
+            c.strands, c.english, c.hebrew
+        ),
+        Ok(
+            Answer::Race {
+                first,
+                second,
+                record,
+                counts: c,
+            },
+        ) => println!(rt;
+            ": race {first} {second} record {record} strands {} english {} hebrew {}",
+            c.strands, c.english, c.hebrew
+        ),
+        Err(r) => println!(rt; ": refused {} event {}", r.fault.number(), r.event),
     }
 }
 
@@ -93,37 +92,34 @@ fn put_all(events: &mut [u8], jobs: &[Repeated<'_>]) -> usize
 }
 
 // The answer for all events of a job of two records. The writer refuses what the reader would.
-fn judged(name: &[u8], events: &[u8], labels: &mut [u64]) -> Answer {
+fn judged(name: &[u8], events: &[u8], labels: &mut [u64]) -> Result<Answer, Refusal> {
     let mut file = io::large_buffer();
     let mut links = [0u16; limits::LINKS];
     let mut places = [0u32; limits::PLACES];
-    match writing::write(name, 2, events, &mut file) {
-        Written::Bytes(n) => judging::judge(
-            &file[..n],
-            events.len() / 4,
-            labels,
-            &mut links,
-            &mut places,
-        ),
-        Written::Refused(r) => Answer::Refused(r),
-    }
+    let n = writing::write(name, 2, events, &mut file)?;
+    let mut buffers = WorkBuffers {
+        labels,
+        links: &mut links,
+        places: &mut places,
+    };
+    judging::judge(&file[..n], events.len() / 4, &mut buffers)
 }
 
 // Jobs in a row, judged as one.
-fn run<R: Print>(rt: &R, jobs: &[Repeated<'_>]) -> Result<()> {
+fn run<R: Print>(rt: &R, jobs: &[Repeated<'_>]) -> Printed<()> {
     let mut labels = [0u64; limits::LABELS];
     let mut events = io::large_buffer();
     let n = put_all(&mut events, jobs);
     report(rt, judged(b"", &events[..n], &mut labels))
 }
 
-fn titled<R: Print>(rt: &R, title: &str, jobs: &[Repeated<'_>]) -> Result<()> {
+fn titled<R: Print>(rt: &R, title: &str, jobs: &[Repeated<'_>]) -> Printed<()> {
     print!(rt; "{title}")?;
     run(rt, jobs)
 }
 
 // The labels of the first three strands, from a place of the buffer on.
-fn three<R: Print>(rt: &R, order: &str, labels: &[u64], at: usize) -> Result<()>
+fn three<R: Print>(rt: &R, order: &str, labels: &[u64], at: usize) -> Printed<()>
     requires { at + 3 ≤ length labels.now }
 {
     println!(rt;
@@ -135,7 +131,7 @@ fn three<R: Print>(rt: &R, order: &str, labels: &[u64], at: usize) -> Result<()>
 }
 
 // The whole file of the rules, with the labels that it leaves.
-fn whole<R: Print>(rt: &R) -> Result<()> {
+fn whole<R: Print>(rt: &R) -> Printed<()> {
     let mut labels = [0u64; limits::LABELS];
     let mut events = io::large_buffer();
     let job = "W0 S R0 W1 E R0 W1 J";
@@ -146,16 +142,21 @@ fn whole<R: Print>(rt: &R) -> Result<()> {
     three(rt, "Hebrew", &labels, limits::HEBREW_LABELS)
 }
 
-fn main(rt: HostRuntime) -> Result<()> {
-    titled(&rt, "1 no events", &[])?;
+fn all<R: Print>(rt: &R) -> Printed<()> {
+    titled(rt, "1 no events", &[])?;
     for (i, job) in SMALL.iter().enumerate() {
         print!(rt; "{} {job}", i + 2)?;
-        run(&rt, &[(1, *job)])?;
+        run(rt, &[(1, *job)])?;
     }
-    titled(&rt, "11 63 S, 63 E", &[(63, "S"), (63, "E")])?;
-    titled(&rt, "11 64 S, 64 E", &[(64, "S"), (64, "E")])?;
-    titled(&rt, "11 2047 S E, J", &[(2047, "S E"), (1, "J")])?;
-    titled(&rt, "11 2048 S E", &[(2048, "S E")])?;
-    titled(&rt, "12 32 S E", &[(32, "S E")])?;
-    whole(&rt)
+    titled(rt, "11 63 S, 63 E", &[(63, "S"), (63, "E")])?;
+    titled(rt, "11 64 S, 64 E", &[(64, "S"), (64, "E")])?;
+    titled(rt, "11 2047 S E, J", &[(2047, "S E"), (1, "J")])?;
+    titled(rt, "11 2048 S E", &[(2048, "S E")])?;
+    titled(rt, "12 32 S E", &[(32, "S E")])?;
+    whole(rt)
+}
+
+// A failed write is not told: the output is compared whole.
+fn main(rt: HostRuntime) {
+    let _ = all(&rt);
 }

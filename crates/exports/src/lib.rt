@@ -4,17 +4,20 @@
 // array of the answer is a plain pointer. No call has a `requires`, and none keeps what it was lent.
 #![tactic(auto)]
 
-ghost use Rattle.std.specs.Prelude.{◌≡◌, ◌≤◌};
+ghost use Rattle.std.specs.Prelude.{◌≡◌, ◌≤◌, ◌-◌, ◌∷◌, replicate};
 ghost use Rattle.jobfile.specs.Lent.{was, is};
 ghost use Rattle.jobfile.specs.File.{check_of, event_count};
+ghost use Rattle.jobfile.specs.Refusals.{number_in};
 ghost use Rattle.relation.specs.Question.{question_of};
 ghost use Rattle.taking.specs.Buffers.{before, after};
-ghost use Rattle.per_record.specs.Lists.{lists_before, lists_after};
+ghost use Rattle.exports.specs.LentLists.{lists_before, lists_after};
 ghost use Rattle.exports.specs.Numbers.{read_numbers, write_numbers, question_numbers, judge_numbers, records_numbers};
 ghost use Rattle.exports.specs.Gives.{WriteCallGives, JudgeCallGives, RecordsCallGives};
 
-use jobfile::Checked;
-use writing::Written;
+use jobfile::{Job, Refusal};
+use per_record::RaceLists;
+use relation::Related;
+use taking::WorkBuffers;
 
 // Reads a file: refusal, event, name's length, events' start, events' length, records.
 #[unsafe(no_mangle)]
@@ -59,7 +62,12 @@ pub extern "C" fn rz_judge(
 )
     ensures { JudgeCallGives file.now k (before labels links places) (is answer) (after labels links places) }
 {
-    *answer = judge_numbers(judging::judge(file, k as usize, labels, links, places));
+    let mut buffers = WorkBuffers {
+        labels,
+        links,
+        places,
+    };
+    *answer = judge_numbers(judging::judge(file, k as usize, &mut buffers));
 }
 
 // Judges the first k events of a file, past every race, and lists the raced records with their pairs: refusal, event, records raced,
@@ -78,19 +86,38 @@ pub extern "C" fn rz_judge_records(
 )
     ensures { RecordsCallGives file.now k (before labels links places) (lists_before records firsts seconds) (is answer) (after labels links places) (lists_after records firsts seconds) }
 {
-    *answer = records_numbers(per_record::judge(
-        file, k as usize, labels, links, places, records, firsts, seconds,
-    ));
+    let mut buffers = WorkBuffers {
+        labels,
+        links,
+        places,
+    };
+    let mut lists = RaceLists {
+        records,
+        firsts,
+        seconds,
+    };
+    *answer = records_numbers(per_record::judge(file, k as usize, &mut buffers, &mut lists));
+}
+
+// The numbers of a refusal, in an answer of so many: zeros behind its number and its event.
+fn refused<const N: usize>(r: Refusal) -> [u64; N]
+    requires { 2 ≤ N }
+    ensures { result ≡ number_in r ∷ r.event ∷ replicate (N - 2) 0 }
+{
+    let mut numbers = [0; N];
+    numbers[0] = r.fault.number() as u64;
+    numbers[1] = r.event as u64;
+    numbers
 }
 
 // The numbers of a checked file.
 // requires: the bound that the check gives.
-fn read_numbers(c: Checked) -> [u64; 6]
+fn read_numbers(c: Result<Job, Refusal>) -> [u64; 6]
     requires { event_count c ≤ 1000000 }
     ensures { result ≡ read_numbers c }
 {
     match c {
-        Checked::Accepted(j) => [
+        Ok(j) => [
             0,
             0,
             j.start as u64,
@@ -98,93 +125,84 @@ fn read_numbers(c: Checked) -> [u64; 6]
             4 * j.events as u64,
             j.records as u64,
         ],
-        Checked::Refused(r) => [r.number as u64, r.event as u64, 0, 0, 0, 0],
+        Err(r) => refused(r),
     }
 }
 
 // The numbers of a write.
-fn write_numbers(w: Written) -> [u64; 3]
+fn write_numbers(w: Result<usize, Refusal>) -> [u64; 3]
     ensures { result ≡ write_numbers w }
 {
     match w {
-        Written::Bytes(n) => [0, 0, n as u64],
-        Written::Refused(r) => [r.number as u64, r.event as u64, 0],
+        Ok(n) => [0, 0, n as u64],
+        Err(r) => refused(r),
     }
 }
 
 // The numbers of a question's answer.
-fn question_numbers(a: relation::Related) -> [u64; 3]
+fn question_numbers(a: Result<Related, Refusal>) -> [u64; 3]
     ensures { result ≡ question_numbers a }
 {
     match a {
-        relation::Related::Same => [0, 0, 0],
-        relation::Related::Before => [0, 0, 1],
-        relation::Related::After => [0, 0, 2],
-        relation::Related::Parallel => [0, 0, 3],
-        relation::Related::Refused(r) => [r.number as u64, r.event as u64, 0],
+        Ok(Related::Same) => [0, 0, 0],
+        Ok(Related::Before) => [0, 0, 1],
+        Ok(Related::After) => [0, 0, 2],
+        Ok(Related::Parallel) => [0, 0, 3],
+        Err(r) => refused(r),
     }
 }
 
 // The numbers of a judgement.
-fn judge_numbers(a: judging::Answer) -> [u64; 9]
+fn judge_numbers(a: Result<judging::Answer, Refusal>) -> [u64; 9]
     ensures { result ≡ judge_numbers a }
 {
     match a {
-        judging::Answer::Clean {
-            strands,
-            english,
-            hebrew,
-        } => [
+        Ok(judging::Answer::Clean(counts)) => [
             0,
             0,
             0,
             0,
             0,
             0,
-            strands as u64,
-            english as u64,
-            hebrew as u64,
+            counts.strands as u64,
+            counts.english as u64,
+            counts.hebrew as u64,
         ],
-        judging::Answer::Race {
-            first,
-            second,
-            record,
-            strands,
-            english,
-            hebrew,
-        } => [
+        Ok(
+            judging::Answer::Race {
+                first,
+                second,
+                record,
+                counts,
+            },
+        ) => [
             0,
             0,
             1,
             first as u64,
             second as u64,
             record as u64,
-            strands as u64,
-            english as u64,
-            hebrew as u64,
+            counts.strands as u64,
+            counts.english as u64,
+            counts.hebrew as u64,
         ],
-        judging::Answer::Refused(r) => [r.number as u64, r.event as u64, 0, 0, 0, 0, 0, 0, 0],
+        Err(r) => refused(r),
     }
 }
 
 // The numbers of a judgement of every record.
-fn records_numbers(a: per_record::Answer) -> [u64; 6]
+fn records_numbers(a: Result<per_record::Answer, Refusal>) -> [u64; 6]
     ensures { result ≡ records_numbers a }
 {
     match a {
-        per_record::Answer::Judged {
-            raced,
-            strands,
-            english,
-            hebrew,
-        } => [
+        Ok(judged) => [
             0,
             0,
-            raced as u64,
-            strands as u64,
-            english as u64,
-            hebrew as u64,
+            judged.raced as u64,
+            judged.counts.strands as u64,
+            judged.counts.english as u64,
+            judged.counts.hebrew as u64,
         ],
-        per_record::Answer::Refused(r) => [r.number as u64, r.event as u64, 0, 0, 0, 0],
+        Err(r) => refused(r),
     }
 }

@@ -9,8 +9,9 @@ ghost use Rattle.bytes_at.specs.Put.{Put};
 ghost use Rattle.judge.specs.Printed.{printed_of};
 
 use bytes_at::put;
-use input::{Input, MOST};
+use input::MOST;
 use std::io::{Eprint, Print};
+use taking::WorkBuffers;
 
 // What is printed for the input, at the start of `out`; answers how many bytes.
 // requires: there is room for the longest line.
@@ -25,10 +26,12 @@ fn printed(input: &[u8], out: &mut [u8]) -> usize
     let mut labels = [0u64; limits::LABELS];
     let mut links = [0u16; limits::LINKS];
     let mut places = [0u32; limits::PLACES];
-    match line::line(input, &mut labels, &mut links, &mut places, out) {
-        line::Lined::Bytes(n) => n,
-        line::Lined::Short => 0,
-    }
+    let mut buffers = WorkBuffers {
+        labels: &mut labels,
+        links: &mut links,
+        places: &mut places,
+    };
+    line::line(input, &mut buffers, out).unwrap_or(0)
 }
 
 // One byte more than the program takes shows that there are too many. What failed is told in the system's words; that this cannot be told
@@ -37,11 +40,11 @@ fn main(rt: HostRuntime) {
     let mut buffer = [0u8; MOST + 1];
     let mut out = [0u8; 256];
     let (what, done) = match input::read(&mut rt.stdin(), &mut buffer) {
-        Input::Bytes(n) => {
+        Ok(n) => {
             let length = printed(&buffer[..n], &mut out);
             ("standard output", rt.write_all(&out[..length]))
         }
-        Input::Failed(e) => ("standard input", Err(e)),
+        Err(e) => ("standard input", Err(e)),
     };
     if let Err(why) = done {
         let _ = match format!(in rt.alloc(); "{why}") {

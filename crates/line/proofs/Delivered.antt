@@ -10,9 +10,10 @@ use lib.ListN.{length, drop}
 use lib.Seq.{take-append_seam, drop-append_seam}
 use borrow.Author.Tests.{lt-ltb, le-ltb}
 use Rattle.io.specs.Counts.{IsPrefixLen}
-use Rattle.std.specs.Prelude.{None, Some}
+use Rattle.std.specs.Prelude.{Option, None, Some}
+use Rattle.std.specs.Option.{unwrap_or}
 use Rattle.bytes_at.specs.Put.{Put}
-use Rattle.line.specs.Line.{lined_of, out_of}
+use Rattle.line.specs.Line.{lined_of, out_of, LineFits}
 use Rattle.bytes_at.proofs.Puts.{put_whole, put_counted}
 
 module _ (line out : List ℕ) where
@@ -38,3 +39,9 @@ module _ (line out : List ℕ) where
   pub line_put : (after : List ℕ) (n : ℕ) → Some n ≡ lined_of line (length out) → after ≡ out_of line out → Put out 0 line n after
   unfolding lined_of out_of
   line_put after n e o = put_by (ltb (length out) (length line)) after n e o
+
+  -- an output of 256 bytes is never too short for a line
+  pub always_put : (after : List ℕ) (r : Option ℕ) → 256 ≤ length after → LineFits r after → r ≡ lined_of line (length out) → after ≡ out_of line out
+      → Put out 0 line (unwrap_or r 0) after
+  always_put after None h f e o = absurd (omega (arith, f))
+  always_put after (Some n) h f e o = line_put after n e o
