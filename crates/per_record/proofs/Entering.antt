@@ -1,28 +1,12 @@
--- One record entered: by its mark, and by the place that the mark says holds the first. Assumes nothing.
+-- The records entered one after the other: how many they are, and that there is room for one more. Assumes nothing.
 use mathlib.Core.Path.{◌≡◌, refl}
-use mathlib.Core.List.{List}
-use Prim.Native.Nat.{ℕ, zero, suc, ◌+◌, ◌*◌, ◌≤◌, ◌<◌}
+use Prim.Native.Nat.{ℕ, zero, suc, ◌+◌, ◌≤◌, ◌<◌}
 use native.Mathlib.Omega.{arith}
 use native.Mathlib.Numerals.{add-one}
-use lib.ListN.{get_or, set}
-use Rattle.std.specs.Prelude.{None, Some}
-use Rattle.races.specs.Mark.{rank}
 use Rattle.races.specs.Records.{Pair}
 use Rattle.per_record.specs.Lists.{Lists, LongEnough, SameLengths}
 use Rattle.per_record.specs.Listed.{has_pair, entered, pairs_below, entered_below}
-use Rattle.per_record.specs.declared.Mark.{Mark}
-use Rattle.per_record.specs.Marks.{Marks, mark_in, pair_held}
 use Rattle.per_record.proofs.Listing.{below_at_most, listed_lengths}
-
-module _ (M : Marks) (P : List ℕ) (r n : ℕ) (L : Lists) where
-  pub not_entered : mark_in M r ≡ None → (n ≡ n + has_pair (pair_held M P r)) × (L ≡ entered (pair_held M P r) r n L)
-  not_entered e = rw e (omega arith, refl)
-
-  -- with what the place holds whose kind the mark tells
-  pub is_entered : (m : Mark) → mark_in M r ≡ Some m → (f : ℕ) → f ≡ get_or P (8192 * rank m.kind + r) 0
-      → (n + 1 ≡ n + has_pair (pair_held M P r))
-      × (record { records = set L.records n r; firsts = set L.firsts n f; seconds = set L.seconds n m.second } ≡ entered (pair_held M P r) r n L)
-  is_entered m e f g = rw (e, g) (refl, refl)
 
 -- one record more
 module _ (pairs : ℕ → Pair) (r : ℕ) where

@@ -138,7 +138,7 @@ module _ {part : List ℕ} {M : Marks} {i k : ℕ} {B : Buffers} {T : OpenTasks}
       before_end : reach.at < to
       before_end = less reach.at to went.within race
 
-      pub within_run : reach.at < k
+      within_run : reach.at < k
       within_run = omega (arith, before_end, S.within, stretch_bounds i k A.next)
 
       raced : Races part reach.at
@@ -158,8 +158,11 @@ module _ {part : List ℕ} {M : Marks} {i k : ℕ} {B : Buffers} {T : OpenTasks}
       }
 
       module _ (found : Found) (F : FirstFound part reach.at found) where
-        pub mark_there : found.«record» < 4096
+        mark_there : found.«record» < 4096
         mark_there = rw (its_number raced found F) (has_mark A.going.run reach.at within_run raced.kind raced.number raced.is_an_access)
+
+        pub race_bounds : (reach.at < 1000000) × (found.«record» < 4096)
+        race_bounds = (omega (arith, within_run, A.going.run.within, A.going.run.small), mark_there)
 
         pub goes_past_race : (m : Mark) → m ≡ record { kind = found.kind; second = reach.at }
             → Goes part i k B T M now B' T' (set M found.«record» (Some m)) (record { at = reach.at + 1; state = reach.state })

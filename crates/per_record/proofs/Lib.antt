@@ -1,3 +1,4 @@
+pub mod Faults
 pub mod Stretches
 pub mod Marking
 pub mod MarksKept

@@ -1,7 +1,7 @@
 -- How far a stretch goes: to the first access of a frozen record, and no further than its end or k. Assumes nothing.
-use Prim.Native.Nat.{ℕ, suc, ◌+◌, ◌≤◌, ◌<◌}
+use Prim.Native.Nat.{ℕ, ◌≤◌, ◌<◌}
 use mathlib.Core.Path.{◌≡◌, sym, ◌∙◌}
-use mathlib.Core.Bool.{Bool, false, false≢true}
+use mathlib.Core.Bool.{Bool, false≢true}
 use native.Mathlib.Omega.{arith}
 use native.Mathlib.Decide.{dec_le}
 use Rattle.per_record.specs.Marks.{stretch_end, FirstFrom}
@@ -9,15 +9,6 @@ use Rattle.per_record.specs.Marks.{stretch_end, FirstFrom}
 -- from an event within k it goes on, and stays within
 pub stretch_bounds : (from k : ℕ) → from < k → (from < stretch_end from k) × (stretch_end from k ≤ k)
 stretch_bounds from k h = (omega arith, omega arith)
-
--- one more event that does not pass
-pub passed_more : {test : ℕ → Bool} {from r : ℕ} → ((m : ℕ) → from ≤ m → m < r → test m ≡ false) → test r ≡ false
-    → (m : ℕ) → from ≤ m → m < r + 1 → test m ≡ false
-passed_more {test = test} {from = from} {r = r} f z m h l = go (dec_le (suc m) r)
-  where
-    go : Dec (m < r) → test m ≡ false
-    go (yes g) = f m h g
-    go (no g) = let e : m ≡ r = omega arith in rw e z
 
 -- there is one first event at most
 pub first_once : {test : ℕ → Bool} {from end r s : ℕ} → FirstFrom test from end r → FirstFrom test from end s → r ≡ s

@@ -85,6 +85,7 @@ pub fn judge_job(
     }
     let mut marks = [None; RECORDS];
     let state = run(job.part(file), k, job.records, buffers, &mut marks);
+    // lent by name, as `races::held` is in judging: the proof then knows that `list` leaves them
     let places = &mut *buffers.places;
     let raced = list(places, &marks, job.records, lists);
     Ok(Answer {
@@ -97,11 +98,11 @@ pub fn judge_job(
 fn short(count: usize, lists: &RaceLists) -> bool
     ensures { result ≡ is_short count (length lists.now.records.now) (length lists.now.firsts.now) (length lists.now.seconds.now) }
 {
-    (lists.records.len() < count) | (lists.firsts.len() < count) | (lists.seconds.len() < count)
+    lists.records.len() < count || lists.firsts.len() < count || lists.seconds.len() < count
 }
 
 // Runs over the first k events, past every race. A record that has raced is marked; it is frozen, and its accesses are left alone from then
-// on. Which event is next `go_on` says, so nothing is counted here.
+// on.
 fn run(
     part: &[u8],
     k: usize,
@@ -119,6 +120,7 @@ fn run(
     let mut tasks = [ROOT; OPEN_TASKS];
     let state = strands::begin(buffers.labels, buffers.links);
     let mut next = Reach { at: 0, state };
+    // no `for`: which event is next, `go_on` says
     while next.at < k {
         next = go_on(part, k, next, &mut tasks, buffers, marks);
     }

@@ -1,7 +1,7 @@
 -- `go_on` meets its contract: past an access of a frozen record, to the end of the stretch, or past the race on the way. Assumes nothing.
 use mathlib.Core.Path.{refl}
 use native.Mathlib.Omega.{arith}
-use Rattle.per_record.proofs.Going.{goes_past_frozen, goes_past_all, within_run, may_find, mark_there, goes_past_race}
+use Rattle.per_record.proofs.Going.{goes_past_frozen, goes_past_all, may_find, race_bounds, goes_past_race}
 use Rattle.per_record.proofs.go_on.Goals as goal
 
 pub returns-then-to-next-clause-goes : goal.returns-then-to-next-clause-goes
@@ -18,21 +18,19 @@ find-found-requires c =
 
 pub overflow_cast-marks : goal.overflow_cast-marks
 overflow_cast-marks c =
-    let next = within_run c.requires _ c.stretch-to.ensures _ _ _ c.until_race-reach.ensures.went c.if-to-next.false c.if-reach-to.false in
-    omega (arith, next, c.requires.going.run.within, c.requires.going.run.small)
+    omega (arith, race_bounds c.requires _ c.stretch-to.ensures _ _ _ c.until_race-reach.ensures.went c.if-to-next.false c.if-reach-to.false _ c.find-found.ensures)
 
 pub offset_bounds-marks-found : goal.offset_bounds-marks-found
 offset_bounds-marks-found c =
-    omega (arith, mark_there c.requires _ c.stretch-to.ensures _ _ _ c.until_race-reach.ensures.went c.if-to-next.false c.if-reach-to.false _ c.find-found.ensures)
+    omega (arith, race_bounds c.requires _ c.stretch-to.ensures _ _ _ c.until_race-reach.ensures.went c.if-to-next.false c.if-reach-to.false _ c.find-found.ensures)
 
 pub bounds-marks-found : goal.bounds-marks-found
 bounds-marks-found c =
-    mark_there c.requires _ c.stretch-to.ensures _ _ _ c.until_race-reach.ensures.went c.if-to-next.false c.if-reach-to.false _ c.find-found.ensures
+    omega (arith, race_bounds c.requires _ c.stretch-to.ensures _ _ _ c.until_race-reach.ensures.went c.if-to-next.false c.if-reach-to.false _ c.find-found.ensures)
 
 pub overflow_add-result-2 : goal.overflow_add-result-2
 overflow_add-result-2 c =
-    let next = within_run c.requires _ c.stretch-to.ensures _ _ _ c.until_race-reach.ensures.went c.if-to-next.false c.if-reach-to.false in
-    omega (arith, next, c.requires.going.run.within, c.requires.going.run.small)
+    omega (arith, race_bounds c.requires _ c.stretch-to.ensures _ _ _ c.until_race-reach.ensures.went c.if-to-next.false c.if-reach-to.false _ c.find-found.ensures)
 
 pub returns-clause-goes : goal.returns-clause-goes
 returns-clause-goes c =

@@ -1,0 +1,23 @@
+-- Where the test of the lists is not met, every list is long enough. Assumes nothing.
+use Prim.Native.Nat.{ℕ}
+use mathlib.Core.Path.{◌≡◌, refl}
+use mathlib.Core.Bool.{Bool, true, false, ◌||◌, false≢true}
+use lib.Dec.{ltb}
+use lib.ListN.{length}
+use borrow.Author.Tests.{ltb-false}
+use Rattle.per_record.specs.Lists.{Lists, LongEnough}
+use Rattle.per_record.specs.Answers.{is_short}
+
+pub long_enough : (count : ℕ) (L : Lists) → false ≡ is_short count (length L.records) (length L.firsts) (length L.seconds) → LongEnough count L
+long_enough count L = by (ltb (length L.records) count) refl (ltb (length L.firsts) count) refl (ltb (length L.seconds) count) refl
+  where
+    by : (a : Bool) → ltb (length L.records) count ≡ a → (b : Bool) → ltb (length L.firsts) count ≡ b
+        → (c : Bool) → ltb (length L.seconds) count ≡ c → false ≡ (a || b || c) → LongEnough count L
+    by true p b q c r z = absurd (false≢true z)
+    by false p true q c r z = absurd (false≢true z)
+    by false p false q true r z = absurd (false≢true z)
+    by false p false q false r z = record {
+      records = ltb-false (length L.records) count p;
+      firsts = ltb-false (length L.firsts) count q;
+      seconds = ltb-false (length L.seconds) count r;
+    }
