@@ -13,6 +13,8 @@ returns-in_err-judgeable-clause-judged c =
     let p = err_from_is_err_and c.from_residual.result c.from_residual.ensures.1 in
     rw (p.1, p.2) (judge_gives _ _ _ _ _ (judge_refused _ _ _ _ _ _ c.requires _ c.in_err-judgeable.ensures.value) refl)
 
+-- An accepted file has the events that its job tells,
+-- and no more than 1,000,000 of them.
 pub part-requires : goal.part-requires
 part-requires c =
     omega (arith, accepted_fits _ _ c.requires)
