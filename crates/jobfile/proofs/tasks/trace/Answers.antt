@@ -30,7 +30,7 @@ returns-in-Err-clause-value c =
 pub loop-event-preserved : goal.loop-event-preserved
 loop-event-preserved c =
     let came = rw (c.in-Ok.is, ← word_is (goal.at.loop-event-preserved c).After-word) at c.apply.ensures in
-    turn_on _ _ _ _ _ _ _ c.loop-event.invariant _ _ _ c.loop-event-test.true came c.in-Ok.field-0.within
+    turn_on _ _ _ _ _ _ _ c.loop-event.invariant _ _ _ c.loop-event-test.true came c.in-Ok.next.within
 
 pub returns-then-tasks-eq1-clause-value : goal.returns-then-tasks-eq1-clause-value
 returns-then-tasks-eq1-clause-value c =
