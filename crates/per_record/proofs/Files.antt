@@ -28,12 +28,12 @@ use Rattle.per_record.proofs.Entering.{same_counted, same_listed}
 use Rattle.per_record.proofs.Pairs.{pair_held_lem}
 
 -- what was listed by the marks and the places is each record's own pair
-module _ {ev : ℕ → Event} {k records : ℕ} {B₀ B : Buffers} {M : Marks} {now : Now} (R : Ran ev k records B₀ B M now) (fit : records ≤ 4096) where
+module _ {ev : ℕ → Event} {k records : ℕ} {B₀ B : Buffers} {M : Marks} {now : Now} (R : Ran ev k records B₀ B M now) (few : k ≤ 1000000) (fit : records ≤ 4096) where
   ran_counted : (n : ℕ) → n ≡ pairs_below (pair_held M B.places) records → n ≡ raced_below ev k records
-  ran_counted n e = e ∙ same_counted _ _ records (λ r l. pair_held_lem ev r k R.marked R.shows.places l fit)
+  ran_counted n e = e ∙ same_counted _ _ records (λ r l. pair_held_lem ev r k R.marked R.shows.places few l fit)
 
   pub ran_listed : (L₀ L : Lists) → L ≡ entered_below (pair_held M B.places) L₀ records → L ≡ listed ev k L₀ records
-  ran_listed L₀ L e = e ∙ same_listed _ _ L₀ records (λ r l. pair_held_lem ev r k R.marked R.shows.places l fit)
+  ran_listed L₀ L e = e ∙ same_listed _ _ L₀ records (λ r l. pair_held_lem ev r k R.marked R.shows.places few l fit)
 
   pub ran_judged : (a : Answer) → a.raced ≡ pairs_below (pair_held M B.places) records → a.counts ≡ counts_in now → a ≡ judged_all ev k records
   unfolding judged_all

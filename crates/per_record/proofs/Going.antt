@@ -10,6 +10,7 @@ use native.Mathlib.Omega.{arith}
 use native.Mathlib.Decide.{dec_le}
 use native.Mathlib.Numerals.{add-one}
 use lib.ListN.{set}
+use Rattle.std.specs.Int.{w32, to_le_bytes}
 use Rattle.std.specs.Prelude.{Some}
 use Rattle.jobfile.specs.Accepted.{RecordBelow}
 use Rattle.jobfile.specs.Events.{access_of}
@@ -164,7 +165,7 @@ module _ {part : List ℕ} {M : Marks} {i k : ℕ} {B : Buffers} {T : OpenTasks}
         pub race_bounds : (reach.at < 1000000) × (found.«record» < 4096)
         race_bounds = (omega (arith, within_run, A.going.run.within, A.going.run.small), mark_there)
 
-        pub goes_past_race : (m : Mark) → m ≡ record { kind = found.kind; second = reach.at }
+        pub goes_past_race : (m : Mark) → m ≡ record { kind = found.kind; second = to_le_bytes w32 reach.at }
             → Goes part i k B T M now B' T' (set M found.«record» (Some m)) (record { at = reach.at + 1; state = reach.state })
         goes_past_race m e = rw (add-one reach.at) (record {
           went = λ records B₀ G.

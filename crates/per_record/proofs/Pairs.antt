@@ -7,6 +7,7 @@ use Prim.Native.Nat.{ℕ, zero, suc, ◌+◌, ◌*◌, ◌≤◌, ◌<◌}
 use native.Mathlib.Omega.{arith}
 use lib.ListN.{get_or}
 use Rattle.std.specs.Prelude.{None, Some}
+use Rattle.std.proofs.lemmas.Nat.{from_le_bytes-to_le_bytes_4}
 use Rattle.jobfile.specs.declared.event.Event.{Event}
 use Rattle.jobfile.specs.declared.event.Kind.{Kind}
 use Rattle.jobfile.specs.declared.event.Kind.TheVariants.{Write, Read}
@@ -58,7 +59,7 @@ module _ (ev : ℕ → Event) (r k : ℕ) where
       finds_first j f.0 l.0 f.1 (found_class rules T r j) refl (least_is (finds rules T r j) 2)
 
   module _ {records : ℕ} {M : Marks} {P₀ P : List ℕ} (marks : Marked ev k M) (shown : Shown rules (event_trace ev) layout k records P₀ P)
-      (below : r < records) (fit : records ≤ 4096) where
+      (few : k ≤ 1000000) (below : r < records) (fit : records ≤ 4096) where
     held_none : second_of rules (event_trace ev) r k ≡ none → pair_held M P r ≡ pair_in ev k r
     unfolding pair_of
     held_none e = let m : mark_in M r ≡ None = marks.marks r (omega arith) ∙ rw e in rw (m, e) refl
@@ -70,7 +71,7 @@ module _ (ev : ℕ → Event) (r k : ℕ) where
         let m : mark_in M r ≡ Some (mark_of (rank F.kind) j) = marks.marks r (omega arith) ∙ rw (e, F.class) in
         let event : get_or P (8192 * rank F.kind + r) 0 ≡ F.first =
         shown.event r (rank F.kind) (record { on_its_record = below; below = rank_below F.kind }) ∙ rw (e, F.holds) in
-        rw (m, kind_back F.kind, event, e, F.names) refl
+        rw (m, kind_back F.kind, event, e, F.names, from_le_bytes-to_le_bytes_4 j (omega (arith, F.within))) refl
 
     pub pair_held_lem : pair_held M P r ≡ pair_in ev k r
     pair_held_lem = go (second_of rules (event_trace ev) r k) refl

@@ -2,6 +2,7 @@
 -- the first; it is frozen from then on.
 use Rattle.std.specs.Prelude.{◌≡◌, List, Bool, true, false, ℕ, zero, suc, ◌+◌, ◌*◌, ◌≤◌, ◌<◌, length, get_or, min, Option, None, Some}
 use Rattle.std.specs.Option.{is_some}
+use Rattle.std.specs.Int.{w32, to_le_bytes, from_le_bytes}
 use Rattle.std.proofs.Math.Option
 use Rattle.std.proofs.Math.Option.{none, some}
 use Rattle.jobfile.specs.Events.{access_of, access_to}
@@ -29,7 +30,7 @@ kind_of (suc class) = Read
 
 -- the mark for the class of the first and for the second
 abbrev pub mark_of : ℕ → ℕ → Mark
-mark_of class second = record { kind = kind_of class; second = second }
+mark_of class second = record { kind = kind_of class; second = to_le_bytes w32 second }
 
 -- the mark of record r, by its second and what that finds
 module _ (ev : ℕ → Event) where
@@ -69,7 +70,7 @@ pub record FirstFrom (test : ℕ → Bool) (from end r : ℕ) : Type 0 where
 -- the pair of record r that a mark of it and the places tell
 abbrev pub pair_by : Option Mark → List ℕ → ℕ → Pair
 pair_by None P r = no_pair
-pair_by (Some m) P r = pair (get_or P (8192 * rank m.kind + r) 0) m.second
+pair_by (Some m) P r = pair (get_or P (8192 * rank m.kind + r) 0) (from_le_bytes w32 m.second)
 
 abbrev pub pair_held : Marks → List ℕ → ℕ → Pair
 pair_held M P r = pair_by (mark_in M r) P r

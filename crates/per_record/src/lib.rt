@@ -38,11 +38,12 @@ pub struct RaceLists<'a> {
     pub seconds: &'a mut [u32],
 }
 
-// The mark of a record that has raced: which kind of its places holds the first, and which event was the second.
+// The mark of a record that has raced: which kind of its places holds the first, and which event was the second. The number stands as its
+// four bytes: so an entry of the marks takes six bytes and not twelve, and all of them stay within 32 KiB of local memory.
 #[derive(Clone, Copy)]
 pub struct Mark {
     pub kind: Kind,
-    pub second: u32,
+    pub second: [u8; 4],
 }
 
 // How many events are looked at for accesses of frozen records before they are run. A race on the way has the rest looked at again.
@@ -155,7 +156,7 @@ fn go_on(
     let found = taking::find(part, reach.at, reach.state, buffers);
     marks[found.record] = Some(Mark {
         kind: found.kind,
-        second: reach.at as u32,
+        second: (reach.at as u32).to_le_bytes(),
     });
     Reach {
         at: reach.at + 1,
@@ -229,7 +230,7 @@ fn enter(
             let kind = mark.kind;
             lists.records[n] = r as u32;
             lists.firsts[n] = races::held(places, kind, r) as u32;
-            lists.seconds[n] = mark.second;
+            lists.seconds[n] = u32::from_le_bytes(mark.second);
             n + 1
         }
         None => n,

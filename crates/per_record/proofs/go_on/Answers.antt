@@ -16,8 +16,8 @@ pub find-found-requires : goal.find-found-requires
 find-found-requires c =
     may_find c.requires _ c.stretch-to.ensures _ _ _ c.until_race-reach.ensures.went c.if-to-next.false c.if-reach-to.false
 
-pub overflow_cast-marks : goal.overflow_cast-marks
-overflow_cast-marks c =
+pub overflow_cast-reach : goal.overflow_cast-reach
+overflow_cast-reach c =
     omega (arith, race_bounds c.requires _ c.stretch-to.ensures _ _ _ c.until_race-reach.ensures.went c.if-to-next.false c.if-reach-to.false _ c.find-found.ensures)
 
 pub offset_bounds-marks-found : goal.offset_bounds-marks-found
@@ -35,4 +35,4 @@ overflow_add-result-2 c =
 pub returns-clause-goes : goal.returns-clause-goes
 returns-clause-goes c =
     goes_past_race c.requires _ c.stretch-to.ensures _ _ _ c.until_race-reach.ensures.went c.if-to-next.false c.if-reach-to.false
-    _ c.find-found.ensures _ refl
+    _ c.find-found.ensures _ (rw c.to_le_bytes.ensures refl)

@@ -1,6 +1,7 @@
 -- `judge_job` meets its contract: a test that fails stores nothing; otherwise the answer, the buffers and the lists are those of the run over
 -- all k events and of the list of the records. Assumes nothing.
 use mathlib.Core.Path.{refl, sym, ◌∙◌}
+use Prim.Native.Nat.{◌≤◌}
 use native.Mathlib.Omega.{arith}
 use Rattle.std.proofs.lemmas.Result.{err_from_is_err_and}
 use Rattle.jobfile.proofs.Checking.{accepted_fits}
@@ -41,7 +42,8 @@ pub returns-clause-gives : goal.returns-clause-gives
 returns-clause-gives c =
     let ran = rw c.part.ensures.bytes at c.run-state.ensures.ran in
     let f = accepted_fits _ _ c.requires in
+    let few : c.args.k ≤ 1000000 = omega (arith, f.2, c.in_ok-judgeable.ensures.judgeable_bound.0) in
     let all_long = sym c.if-short.false ∙ c.short.ensures in
     records_gives _ _ _ _ _ _ _
-    (records_run _ _ _ _ _ c.requires c.in_ok-judgeable.ensures.value all_long _ (ran_judged ran f.4 _ c.list-raced.ensures.value c.into-2.ensures))
-    (leaves_run _ _ _ _ _ _ _ c.requires ran.shows (ran_listed ran f.4 _ _ c.list-raced.ensures.entered))
+    (records_run _ _ _ _ _ c.requires c.in_ok-judgeable.ensures.value all_long _ (ran_judged ran few f.4 _ c.list-raced.ensures.value c.into-2.ensures))
+    (leaves_run _ _ _ _ _ _ _ c.requires ran.shows (ran_listed ran few f.4 _ _ c.list-raced.ensures.entered))
