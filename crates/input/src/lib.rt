@@ -12,7 +12,8 @@ use std::io::Read;
 // The most bytes that a program takes.
 pub const MOST: usize = 65536;
 
-// The input from where it stands, until it ends or the buffer is full: how many bytes came.
+// The input from where it stands, until it ends or the buffer is full: how many bytes came. A `while` still: each turn goes on by as many
+// bytes as came, and of std's methods `read_to_end` wants a heap, and `read_exact` does not tell how many came.
 pub fn read<R: Read>(input: &mut R, buffer: &mut [u8]) -> io::Result<usize>
     ensures { IfOk result (λ n. IsPrefixLen n (is buffer)) }
 {

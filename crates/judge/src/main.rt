@@ -35,7 +35,8 @@ fn printed(input: &[u8], out: &mut [u8]) -> usize
 }
 
 // One byte more than the program takes shows that there are too many. What failed is told in the system's words; that this cannot be told
-// is not.
+// is not. The `main` of records differs in a name and a length. It stays beside this one: a shared one would be a public function that prints,
+// of which no clause can promise anything, and here each public function has one.
 fn main(rt: HostRuntime) {
     let mut buffer = [0u8; MOST + 1];
     let mut out = [0u8; 256];

@@ -25,10 +25,8 @@ pub const HEBREW_LINKS: usize = 8192;
 
 pub const BACK: usize = 4096;
 
-// No strand, as a link holds it and as a number.
+// No strand, as a link holds it. A number and no Option, since the C interface shows what the buffer of links holds.
 pub const NO_LINK: u16 = 65535;
-
-pub const NO_STRAND: usize = 65535;
 
 // Places: the last write's event of record r at r, the standing read's at STANDING_READS + r, and the strand of each ITS_STRAND behind.
 pub const PLACES: usize = 16384;
@@ -37,5 +35,5 @@ pub const STANDING_READS: usize = 8192;
 
 pub const ITS_STRAND: usize = 4096;
 
-// No access, for an event and its strand alike.
+// No access, for an event and its strand alike: a number too, as the C interface shows what the buffer of places holds.
 pub const NO_PLACE: u32 = 4294967295;

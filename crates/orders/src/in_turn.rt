@@ -9,7 +9,8 @@ use crate::chain::link;
 use crate::spacing::{put, spaced};
 use limits::NO_LINK;
 
-// How many labels an append set or changed, and how many strands from the first on then have the labels of their positions.
+// How many labels an append set or changed, and how many strands from the first on then have the labels of their positions. Beside `Placing`:
+// the two share a count, and one type with a parameter would have to call the number and the mark by one name.
 #[derive(Clone, Copy)]
 pub struct Appending {
     pub changed: usize,
