@@ -1,4 +1,5 @@
-// Bytes put at a place of a lent buffer, one run behind another: the parts of a file, the fields of a line.
+// Bytes put at a place of a lent buffer, one run behind another: the parts of a file, the lines of an answer. The place goes
+// beside the buffer, as its length is the caller's: no heap holds what is put.
 #![tactic(auto)]
 
 ghost use Rattle.std.specs.Prelude.{◌+◌, ◌≤◌, length};

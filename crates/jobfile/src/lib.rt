@@ -1,8 +1,7 @@
 // Job files: the check of a whole file, and its parts.
 //
-// Every byte string is dealt with: a file is accepted, or refused by its number. The calls on a
-// file have no `requires`; two steps lent to the crates above have one, with its reason. Nothing
-// here writes to a caller's buffer.
+// Every byte string is dealt with: a file is accepted, or refused by its number. The calls on a file have no `requires`; the steps lent to
+// the crates above, and the parts that a job cuts out of its file, have one, with its reason. Nothing here writes to a caller's buffer.
 #![tactic(auto)]
 
 mod coding;
@@ -28,25 +27,22 @@ pub fn check(file: &[u8]) -> Result<Job, Refusal>
     ensures { CheckGives file.now result }
 {
     let head = trailer::read_head(file)?;
-    let start = head.start;
-    let end = start + 4 * head.count;
-    let strands = trace(&file[start..end], head.records)?;
+    let end = head.start + 4 * head.count;
+    let strands = trace(&file[head.start..end], head.records)?;
     Ok(Job {
-        start,
+        start: head.start,
         events: head.count,
         records: head.records,
         strands,
     })
 }
 
-// The name: the front part of the caller's own file, or an empty part of it where the file is refused.
+// The name: the front part of the caller's own file, or an empty part of it where the file is refused. It answers a slice, and no Result,
+// for it cannot fail; who wants the refusal asks `check`.
 pub fn name<'a>(file: &'a [u8]) -> &'a [u8]
     ensures { Part result file.entry 0 (name_length (check_of file.now)) }
 {
-    match check(file) {
-        Ok(job) => job.name(file),
-        Err(_) => &file[..0],
-    }
+    check(file).map_or(&file[..0], |job| job.name(file))
 }
 
 // The events: the part of the caller's own file that starts mid-file, or an empty part of it where
@@ -54,8 +50,5 @@ pub fn name<'a>(file: &'a [u8]) -> &'a [u8]
 pub fn events<'a>(file: &'a [u8]) -> &'a [u8]
     ensures { Part result file.entry (name_length (check_of file.now)) (4 * event_count (check_of file.now)) }
 {
-    match check(file) {
-        Ok(job) => job.part(file),
-        Err(_) => &file[..0],
-    }
+    check(file).map_or(&file[..0], |job| job.part(file))
 }

@@ -58,7 +58,7 @@ module _ {A : Type 0} (events strands k labels links places : ℕ) (run : A) (re
       by false p false q false r false s false t =
           inl (refl, (within p, (not_row (fit q r s), (not_row (λ l. omega (arith, ltb-false (2 ^ 64 - 1) (spaced (strands - 1)) t)), tt))))
 
--- The fault of the run is exact by its table.
+-- the number of a fault, and 0 where there is none
 abbrev pub fault_number : Result Unit Fault → ℕ
 fault_number (Ok x) = 0
 fault_number (Err fault) = number_of fault
@@ -67,6 +67,7 @@ fault_alone : (r : Result Unit Fault) → ◌≡◌ {A = ℕ × ℕ} (unless 0 0
 fault_alone (Ok x) = refl
 fault_alone (Err fault) = refl
 
+-- The fault of the run is exact by its table.
 pub fault_exact : (events strands k labels links places : ℕ)
     → ExactNumbers (run_table events strands k labels links places) (fault_number (judgeable events strands k labels links places)) 0
 fault_exact events strands k labels links places =

@@ -185,10 +185,8 @@ fn frozen(part: &[u8], i: usize, marks: &[Option<Mark>; RECORDS]) -> bool
     requires has_mark { HasMark part.now i }
     ensures { result ≡ frozen_at part.now marks.now i }
 {
-    match jobfile::access_of(jobfile::event_at(part, i)) {
-        Some(access) => marks[access.record as usize].is_some(),
-        None => false,
-    }
+    let access = jobfile::access_of(jobfile::event_at(part, i));
+    access.is_some_and(|a| marks[a.record as usize].is_some())
 }
 
 // Lists the raced ones of the first `count` records, and says how many they are.

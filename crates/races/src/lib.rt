@@ -4,7 +4,7 @@
 
 ghost use Rattle.std.specs.Prelude.{◌≡◌, false, cond, ◌+◌, ◌*◌, ◌<◌, ◌≤◌, length, get_or};
 ghost use Rattle.jobfile.specs.Lent.{was, is};
-ghost use Rattle.races.specs.Entries.{put, filled, Empty};
+ghost use Rattle.races.specs.Entries.{filled, Empty};
 ghost use Rattle.races.specs.Shown.{NamesNone, Accessible, Accessed};
 ghost use Rattle.races.specs.Mark.{rank, rules, layout, two};
 

@@ -1,6 +1,5 @@
 // The walk over the events between two, which decides whether the first is parallel to the second.
 ghost use Rattle.std.specs.Prelude.{◌≡◌, true, ◌+◌, ◌≤◌, ◌<◌};
-ghost use Rattle.jobfile.specs.Lent.{was};
 ghost use Rattle.jobfile.specs.Trace.{event_at, moves};
 ghost use Rattle.relation.specs.Walk.{move, par};
 ghost use Rattle.relation.specs.Between.{walker_of, Stretch};

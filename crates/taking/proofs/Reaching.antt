@@ -28,7 +28,7 @@ module _ {part : List ℕ} {from to records k : ℕ} {B₀ B B' : Buffers} {T T'
   pub turnable : Turnable part i B' T' next
   turnable = record { records = records; k = k; B₀ = B₀; run = R.run; next = within_run; midway = S; fresh = fresh_there }
 
-  -- the open tasks' arrays one event on
+  -- the open tasks' array one event on
   pub tasks_on : (T'' T₀ : OpenTasks) → T'' ≡ tasks_after (move_of (event_at part i)) next.strands next.top T'
       → T' ≡ tasks_over (moves (event_at part)) from (i - from) T₀ → T'' ≡ tasks_over (moves (event_at part)) from (suc i - from) T₀
   unfolding tasks_over

@@ -3,6 +3,7 @@ use Rattle.std.specs.Prelude.{ℕ}
 use Rattle.trailer.specs.declared.fault.Fault.{Fault}
 use Rattle.trailer.specs.declared.fault.Fault.TheVariants.{Short, Unmarked, RecordCount, EventCount, Distance, Outside, Name, NoEvent, Record, RootEnded, TooDeep, TooManyStrands, LeftOpen, ShortBuffer, PastEvents, ShortOutput, NoLabels, NotAccess}
 
+-- what a refusal for it shows: the number of the rules
 abbrev pub number_of : Fault → ℕ
 -- "file under 16 bytes"
 number_of Short = 1

@@ -2,7 +2,7 @@
 ghost use Rattle.std.specs.Prelude.{◌≡◌};
 ghost use Rattle.trailer.specs.Numbers.{number_of};
 
-// The words are those of the file's parts and of the calls that take them.
+// What a file, a call or a question is refused for, each kind by the word for what is wrong.
 #[derive(Clone, Copy, Debug, PartialEq, Eq)]
 pub enum Fault {
     Short,

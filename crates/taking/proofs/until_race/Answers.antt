@@ -1,5 +1,5 @@
 -- `until_race` meets its contract. The invariant: where the state at the loop's start is that before event `from`, the state is now that
--- before event i, no record has raced on the way, and the open tasks' arrays are what the moves made of them. Assumes nothing.
+-- before event i, no record has raced on the way, and the open tasks' array is what the moves made of it. Assumes nothing.
 use mathlib.Core.Path.{◌≡◌, refl, ◌∙◌}
 use native.Mathlib.Omega.{arith}
 use native.Mathlib.Numerals.{add-one}
