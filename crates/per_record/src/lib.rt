@@ -171,12 +171,9 @@ fn stretch(part: &[u8], from: usize, k: usize, marks: &[Option<Mark>; RECORDS]) 
     ensures { FirstFrom (frozen_at part.now marks.now) from (stretch_end from k) result }
 {
     let most = k.min(from + STRETCH);
-    for i in from..most {
-        if frozen(part, i, marks) {
-            return i;
-        }
-    }
-    most
+    (from..most)
+        .find(|&i| frozen(part, i, marks))
+        .unwrap_or(most)
 }
 
 // Whether event i is an access of a frozen record.
