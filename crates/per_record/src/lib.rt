@@ -79,7 +79,13 @@ pub fn judge_job(
     ensures same_references { SameReferences buffers.old buffers.new }
     ensures same_lists { SameLists lists.old lists.new }
 {
-    judging::judgeable(&job, k, buffers)?;
+    judging::judgeable(
+        &job,
+        k,
+        buffers.labels.len(),
+        buffers.links.len(),
+        buffers.places.len(),
+    )?;
     if short(job.records, lists) {
         return Err(Fault::ShortOutput.into());
     }
@@ -152,7 +158,9 @@ fn go_on(
     if reach.at == to {
         return reach;
     }
-    let found = taking::find(part, reach.at, reach.state, buffers);
+    let labels = &mut *buffers.labels;
+    let places = &mut *buffers.places;
+    let found = taking::find(part, reach.at, reach.state, labels, places);
     marks[found.record] = Some(Mark {
         kind: found.kind,
         second: reach.at as u32,
