@@ -126,6 +126,7 @@ fn run(part: &[u8], k: usize, records: usize, buffers: &mut WorkBuffers) -> Answ
     let reach = until_race(part, 0, k, begun, &mut tasks, buffers);
     let counts = Counts::from(reach.state);
     if reach.at < k {
+        // lent by name: the check does not cover two fields of `buffers` passed to be read in one call
         let labels = &mut *buffers.labels;
         let places = &mut *buffers.places;
         let found = taking::find(part, reach.at, reach.state, labels, places);

@@ -158,6 +158,7 @@ fn go_on(
     if reach.at == to {
         return reach;
     }
+    // lent by name, as in judging
     let labels = &mut *buffers.labels;
     let places = &mut *buffers.places;
     let found = taking::find(part, reach.at, reach.state, labels, places);

@@ -88,6 +88,7 @@ fn take(
             let kind = access.kind;
             let r = access.record as usize;
             let strand = state.strands - 1;
+            // lent by name: `above` takes the labels alone, since `find` has no more to give it
             let labels = &mut *buffers.labels;
             let places = &mut *buffers.places;
             let wrote = held_or(places[r + ITS_STRAND] as usize, strand);
