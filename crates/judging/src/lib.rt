@@ -72,25 +72,38 @@ pub fn judge_job(
     ensures same_references { SameReferences buffers.old buffers.new }
     ensures judged { JudgeGives file.now k (lists_in buffers.old) result (lists_in buffers.new) }
 {
-    judgeable(&job, k, buffers)?;
+    judgeable(
+        &job,
+        k,
+        buffers.labels.len(),
+        buffers.links.len(),
+        buffers.places.len(),
+    )?;
     Ok(run(job.part(file), k, job.records, buffers))
 }
 
-// The first of refusals 15, 14 and 17 that is given. A respacing of 4,096 strands ends below 2^64, and one of more does not.
-pub fn judgeable(job: &Job, k: usize, buffers: &WorkBuffers) -> Result<(), Fault>
-    ensures value { result ≡ judgeable job.now.events job.now.strands k (length buffers.now.labels.now) (length buffers.now.links.now) (length buffers.now.places.now) }
-    ensures judgeable_bound { JudgeableBound result job.now.events k (length buffers.now.labels.now) (length buffers.now.links.now) (length buffers.now.places.now) }
+// The first of refusals 15, 14 and 17 that is given, by the buffers' lengths: a caller can ask before it has any. A respacing of 4,096
+// strands ends below 2^64, and one of more does not.
+pub fn judgeable(
+    job: &Job,
+    k: usize,
+    labels: usize,
+    links: usize,
+    places: usize,
+) -> Result<(), Fault>
+    ensures value { result ≡ judgeable job.now.events job.now.strands k labels links places }
+    ensures judgeable_bound { JudgeableBound result job.now.events k labels links places }
 {
     if k > job.events {
         return Err(Fault::PastEvents);
     }
-    if buffers.labels.len() < LABELS {
+    if labels < LABELS {
         return Err(Fault::ShortBuffer);
     }
-    if buffers.links.len() < LINKS {
+    if links < LINKS {
         return Err(Fault::ShortBuffer);
     }
-    if buffers.places.len() < PLACES {
+    if places < PLACES {
         return Err(Fault::ShortBuffer);
     }
     if job.strands > STRANDS {
@@ -113,8 +126,10 @@ fn run(part: &[u8], k: usize, records: usize, buffers: &mut WorkBuffers) -> Answ
     let reach = until_race(part, 0, k, begun, &mut tasks, buffers);
     let counts = Counts::from(reach.state);
     if reach.at < k {
-        let found = taking::find(part, reach.at, reach.state, buffers);
+        // lent by name: the check does not cover two fields of `buffers` passed to be read in one call
+        let labels = &mut *buffers.labels;
         let places = &mut *buffers.places;
+        let found = taking::find(part, reach.at, reach.state, labels, places);
         return Answer::Race {
             first: races::held(places, found.kind, found.record),
             second: reach.at,

@@ -80,7 +80,13 @@ pub fn judge_job(
     ensures same_references { SameReferences buffers.old buffers.new }
     ensures same_lists { SameLists lists.old lists.new }
 {
-    judging::judgeable(&job, k, buffers)?;
+    judging::judgeable(
+        &job,
+        k,
+        buffers.labels.len(),
+        buffers.links.len(),
+        buffers.places.len(),
+    )?;
     if short(job.records, lists) {
         return Err(Fault::ShortOutput.into());
     }
@@ -153,7 +159,10 @@ fn go_on(
     if reach.at == to {
         return reach;
     }
-    let found = taking::find(part, reach.at, reach.state, buffers);
+    // lent by name, as in judging
+    let labels = &mut *buffers.labels;
+    let places = &mut *buffers.places;
+    let found = taking::find(part, reach.at, reach.state, labels, places);
     marks[found.record] = Some(Mark {
         kind: found.kind,
         second: (reach.at as u32).to_le_bytes(),

@@ -88,19 +88,19 @@ fn take(
             let kind = access.kind;
             let r = access.record as usize;
             let strand = state.strands - 1;
-            let wrote = held_or(buffers.places[r + ITS_STRAND] as usize, strand);
-            if above(buffers, strand, wrote) {
+            // lent by name: `above` takes the labels alone, since `find` has no more to give it
+            let labels = &mut *buffers.labels;
+            let places = &mut *buffers.places;
+            let wrote = held_or(places[r + ITS_STRAND] as usize, strand);
+            if above(labels, strand, wrote) {
                 return None;
             }
-            let read = held_or(
-                buffers.places[STANDING_READS + r + ITS_STRAND] as usize,
-                strand,
-            );
-            if above(buffers, strand, clashing(kind, read, strand)) {
+            let read = held_or(places[STANDING_READS + r + ITS_STRAND] as usize, strand);
+            if above(labels, strand, clashing(kind, read, strand)) {
                 return None;
             }
-            let stood = above(buffers, strand, read);
-            races::access(buffers.places, kind, r, i, strand, stood);
+            let stood = above(labels, strand, read);
+            races::access(places, kind, r, i, strand, stood);
             Some(state)
         }
         None => {
@@ -112,14 +112,14 @@ fn take(
 
 // The place that holds the first of the race whose second is event i.
 // requires: the state is that before event i, which races, as `until_race` leaves it.
-pub fn find(part: &[u8], i: usize, state: Now, buffers: &WorkBuffers) -> Found
-    requires { Findable part.now i buffers.now.labels.now buffers.now.places.now state }
+pub fn find(part: &[u8], i: usize, state: Now, labels: &[u64], places: &[u32]) -> Found
+    requires { Findable part.now i labels.now places.now state }
     ensures { FirstFound part.now i result }
 {
     let record = record_at(part, i);
     let strand = state.strands - 1;
-    let wrote = held_or(buffers.places[record + ITS_STRAND] as usize, strand);
-    if above(buffers, strand, wrote) {
+    let wrote = held_or(places[record + ITS_STRAND] as usize, strand);
+    if above(labels, strand, wrote) {
         return Found {
             kind: Kind::Write,
             record,
@@ -155,11 +155,11 @@ fn clashing(kind: Kind, read: usize, strand: usize) -> usize
 }
 
 // Whether strand `other` is parallel to `strand`, the current one: its Hebrew label is above.
-fn above(buffers: &WorkBuffers, strand: usize, other: usize) -> bool
-    requires { (8192 ≤ length buffers.now.labels.now) × (strand < 4096) × (other < 4096) }
-    ensures { result ≡ label_above buffers.now.labels.now strand other }
+fn above(labels: &[u64], strand: usize, other: usize) -> bool
+    requires { (8192 ≤ length labels.now) × (strand < 4096) × (other < 4096) }
+    ensures { result ≡ label_above labels.now strand other }
 {
-    buffers.labels[HEBREW_LABELS + strand] < buffers.labels[HEBREW_LABELS + other]
+    labels[HEBREW_LABELS + strand] < labels[HEBREW_LABELS + other]
 }
 
 // The strand that a place holds, or `strand` where that is none. The machine picks one without a branch: which places are empty

@@ -12,12 +12,12 @@ pub overflow_add-record : goal.overflow_add-record
 overflow_add-record c =
     omega (arith, its_record c.requires _ c.record_at-record.ensures)
 
-pub offset_bounds-buffers-record : goal.offset_bounds-buffers-record
-offset_bounds-buffers-record c =
+pub offset_bounds-places-record : goal.offset_bounds-places-record
+offset_bounds-places-record c =
     omega (arith, its_record c.requires _ c.record_at-record.ensures)
 
-pub bounds-buffers-record : goal.bounds-buffers-record
-bounds-buffers-record c =
+pub bounds-places-record : goal.bounds-places-record
+bounds-places-record c =
     omega (arith, its_record c.requires _ c.record_at-record.ensures, c.requires.midway.places_room)
 
 pub held_or-wrote-requires : goal.held_or-wrote-requires

@@ -9,8 +9,8 @@ pub overflow_sub-strand : goal.overflow_sub-strand
 overflow_sub-strand c =
     some_strands c.requires _ c.event_at-e.ensures
 
-pub bounds-buffers-r : goal.bounds-buffers-r
-bounds-buffers-r c =
+pub bounds-places-r : goal.bounds-places-r
+bounds-places-r c =
     let asked = c.requires in
     let to = sym c.access_of.ensures ∙ c.in-Some.is in
     omega (arith, record_below asked _ c.event_at-e.ensures _ _ to, asked.midway.places_room)
@@ -33,8 +33,8 @@ returns-then-above-clause-taken c =
     turns_written asked _ c.event_at-e.ensures _ _ to
     (rw c.held_or-wrote.ensures.value at (sym c.if-above.true ∙ c.above.ensures))
 
-pub bounds-buffers-r-in-Some : goal.bounds-buffers-r-in-Some
-bounds-buffers-r-in-Some c =
+pub bounds-places-r-in-Some : goal.bounds-places-r-in-Some
+bounds-places-r-in-Some c =
     let asked = c.requires in
     let to = sym c.access_of.ensures ∙ c.in-Some.is in
     omega (arith, record_below asked _ c.event_at-e.ensures _ _ to, asked.midway.places_room)
