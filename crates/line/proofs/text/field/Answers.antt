@@ -5,5 +5,5 @@ use Rattle.line.proofs.Digits.{printed}
 use Rattle.line.proofs.text.field.Goals as goal
 
 pub returns-clause-put : goal.returns-clause-put
-returns-clause-put c =
+returns-clause-put g c =
     rw (← printed c.args.n (omega arith), ← append_assoc) cc
