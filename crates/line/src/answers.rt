@@ -82,7 +82,8 @@ pub fn ending<const N: usize>(text: &mut ArrayVec<u8, N>, name: &[u8])
 
 #[tactic(auto, using(std::proofs::Common::append_assoc), unfolding(crate::specs::Text::refusal_text))]
 pub fn refusal(refused: Refusal) -> Text
-    ensures { result.items ≡ refusal_text refused }
+    ensures value { result.items ≡ refusal_text refused }
+    ensures upper_bound { array_vec_len result ≤ 56 }
 {
     let mut text = Text::new();
     field(&mut text, b"refused ", refused.fault.number() as usize);
@@ -95,7 +96,8 @@ pub fn refusal(refused: Refusal) -> Text
 #[tactic(auto, using(std::proofs::Common::append_assoc))]
 pub fn clean<const N: usize>(counted: Counts, name: &[u8]) -> ArrayVec<u8, N>
     requires { length name.now + 98 ≤ N }
-    ensures { result.items ≡ clean_text counted.strands counted.english counted.hebrew name.now }
+    ensures value { result.items ≡ clean_text counted.strands counted.english counted.hebrew name.now }
+    ensures upper_bound { array_vec_len result ≤ length name.now + 98 }
 {
     let mut text = ArrayVec::new();
     put(&mut text, b"clean");

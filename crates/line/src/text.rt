@@ -1,4 +1,5 @@
-// The text of a line, and what is put behind the text so far: bytes, and fields of a word and a number.
+// The text of a line, and what is put behind the text so far: bytes, and fields of a word and a number. A caller's vector may have any
+// capacity N: all that is asked of it is the room.
 // No `write!`: it promises the bytes where it succeeds, and never that it does, so whether a line is there would not be determined.
 ghost use Rattle.std.specs.Prelude.{◌≡◌, ◌++◌, ◌+◌, ◌≤◌, length};
 ghost use Rattle.arrayvec.specs.ArrayVec.{array_vec_len};
