@@ -6,6 +6,7 @@ ghost use Rattle.jobfile.specs.Trace.{event_at};
 ghost use Rattle.line.specs.Text.{letter_of, pair_text, kinds_text, counts_text, name_text, clean_text, race_text, refusal_text, judged_text, PairWithin};
 
 use crate::text::{Text, field, put};
+use arrayvec::ArrayVec;
 use jobfile::{Access, Kind, Refusal};
 use judging::{Answer, Counts};
 
@@ -32,8 +33,8 @@ fn letter(access: Option<Access>) -> &'static [u8]
 }
 
 // requires: there is room for three words and three numbers.
-pub fn pair(text: &mut Text, number: usize, first: usize, second: usize)
-    requires { array_vec_len text.old + 87 ≤ 256 }
+pub fn pair<const N: usize>(text: &mut ArrayVec<u8, N>, number: usize, first: usize, second: usize)
+    requires { array_vec_len text.old + 87 ≤ N }
     ensures put { text.new.items ≡ text.old.items ++ pair_text number first second }
     ensures upper_bound { array_vec_len text.new ≤ array_vec_len text.old + 87 }
 {
@@ -43,8 +44,8 @@ pub fn pair(text: &mut Text, number: usize, first: usize, second: usize)
 }
 
 // requires: there is room for the nine bytes, and both events are there.
-pub fn kinds(text: &mut Text, events: &[u8], first: usize, second: usize)
-    requires room { array_vec_len text.old + 9 ≤ 256 }
+pub fn kinds<const N: usize>(text: &mut ArrayVec<u8, N>, events: &[u8], first: usize, second: usize)
+    requires room { array_vec_len text.old + 9 ≤ N }
     requires first_in_bounds { 4 * first + 4 ≤ length events.now }
     requires second_in_bounds { 4 * second + 4 ≤ length events.now }
     ensures put { text.new.items ≡ text.old.items ++ kinds_text (access_of (event_at events.now first)) (access_of (event_at events.now second)) }
@@ -58,8 +59,8 @@ pub fn kinds(text: &mut Text, events: &[u8], first: usize, second: usize)
 }
 
 // requires: there is room for three words and three numbers.
-pub fn counts(text: &mut Text, counts: Counts)
-    requires { array_vec_len text.old + 86 ≤ 256 }
+pub fn counts<const N: usize>(text: &mut ArrayVec<u8, N>, counts: Counts)
+    requires { array_vec_len text.old + 86 ≤ N }
     ensures put { text.new.items ≡ text.old.items ++ counts_text counts.strands counts.english counts.hebrew }
     ensures upper_bound { array_vec_len text.new ≤ array_vec_len text.old + 86 }
 {
@@ -69,8 +70,8 @@ pub fn counts(text: &mut Text, counts: Counts)
 }
 
 // requires: there is room for the name and seven bytes more.
-pub fn ending(text: &mut Text, name: &[u8])
-    requires { array_vec_len text.old + length name.now + 7 ≤ 256 }
+pub fn ending<const N: usize>(text: &mut ArrayVec<u8, N>, name: &[u8])
+    requires { array_vec_len text.old + length name.now + 7 ≤ N }
     ensures put { text.new.items ≡ text.old.items ++ name_text name.now }
     ensures upper_bound { array_vec_len text.new ≤ array_vec_len text.old + length name.now + 7 }
 {
@@ -81,7 +82,8 @@ pub fn ending(text: &mut Text, name: &[u8])
 
 #[tactic(auto, using(std::proofs::Common::append_assoc), unfolding(crate::specs::Text::refusal_text))]
 pub fn refusal(refused: Refusal) -> Text
-    ensures { result.items ≡ refusal_text refused }
+    ensures value { result.items ≡ refusal_text refused }
+    ensures upper_bound { array_vec_len result ≤ 56 }
 {
     let mut text = Text::new();
     field(&mut text, b"refused ", refused.fault.number() as usize);
@@ -92,11 +94,12 @@ pub fn refusal(refused: Refusal) -> Text
 
 // requires: there is room for the name and 98 bytes more.
 #[tactic(auto, using(std::proofs::Common::append_assoc))]
-pub fn clean(counted: Counts, name: &[u8]) -> Text
-    requires { length name.now + 98 ≤ 256 }
-    ensures { result.items ≡ clean_text counted.strands counted.english counted.hebrew name.now }
+pub fn clean<const N: usize>(counted: Counts, name: &[u8]) -> ArrayVec<u8, N>
+    requires { length name.now + 98 ≤ N }
+    ensures value { result.items ≡ clean_text counted.strands counted.english counted.hebrew name.now }
+    ensures upper_bound { array_vec_len result ≤ length name.now + 98 }
 {
-    let mut text = Text::new();
+    let mut text = ArrayVec::new();
     put(&mut text, b"clean");
     counts(&mut text, counted);
     ending(&mut text, name);
@@ -104,20 +107,20 @@ pub fn clean(counted: Counts, name: &[u8]) -> Text
 }
 
 // requires: there is room for the name and 189 bytes more, and both events are there.
-fn race(
+fn race<const N: usize>(
     first: usize,
     second: usize,
     number: usize,
     counted: Counts,
     events: &[u8],
     name: &[u8],
-) -> Text
-    requires name_in_bounds { length name.now + 189 ≤ 256 }
+) -> ArrayVec<u8, N>
+    requires name_in_bounds { length name.now + 189 ≤ N }
     requires first_in_bounds { 4 * first + 4 ≤ length events.now }
     requires second_in_bounds { 4 * second + 4 ≤ length events.now }
     ensures { result.items ≡ race_text first second number counted.strands counted.english counted.hebrew events.now name.now }
 {
-    let mut text = Text::new();
+    let mut text = ArrayVec::new();
     pair(&mut text, number, first, second);
     kinds(&mut text, events, first, second);
     counts(&mut text, counted);

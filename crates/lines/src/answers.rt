@@ -27,7 +27,8 @@ pub fn answer(
     ensures { Put (was out) 0 (listed_text answer events.now (entries_in lists.now) name.now) result (is out) }
 {
     if answer.raced == 0 {
-        return put(out, 0, &line::clean(answer.counts, name));
+        let line: Text = line::clean(answer.counts, name);
+        return put(out, 0, &line);
     }
     let at = entries(out, events, lists, answer.raced);
     put(out, at, &last(answer.raced, answer.counts, name))

@@ -6,5 +6,5 @@ use Rattle.line.proofs.answers.ending.Goals as goal
 
 pub returns-clause-put : goal.returns-clause-put
 unfolding name_text
-returns-clause-put c =
+returns-clause-put g c =
     rw (c.put-3.ensures.put, c.put-2.ensures.put, c.put.ensures.put) (simp append_assoc refl)

@@ -6,5 +6,5 @@ use Rattle.line.proofs.answers.pair.Goals as goal
 
 pub returns-clause-put : goal.returns-clause-put
 unfolding pair_text
-returns-clause-put c =
+returns-clause-put g c =
     rw (c.field-3.ensures.put, c.field-2.ensures.put, c.field.ensures.put) (simp append_assoc refl)

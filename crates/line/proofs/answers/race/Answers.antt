@@ -4,5 +4,5 @@ use mathlib.Core.Path.{refl}
 use Rattle.line.proofs.answers.race.Goals as goal
 
 pub returns : goal.returns
-returns c =
+returns g c =
     rw (c.ending.ensures.put, c.counts.ensures.put, c.kinds.ensures.put, c.pair.ensures.put, c.new-text.ensures) (simp append_assoc refl)

@@ -6,7 +6,7 @@ use Rattle.lines.proofs.answers.answer.Goals as goal
 
 pub returns-then-answer-eq0 : goal.returns-then-answer-eq0
 returns-then-answer-eq0 c =
-    let line = rw (c.deref.ensures.0 ∙ c.clean.ensures) at c.put.ensures in
+    let line = rw (c.deref.ensures.0 ∙ c.clean-line.ensures.value) at c.put.ensures in
     rw (← clean_told _ _ _ _ _ _ c.if-answer-eq0.true) line
 
 pub returns : goal.returns
