@@ -7,7 +7,8 @@ use crate::event::Event;
 use trailer::Fault;
 
 // The event of a kind and a record. A kind of two bytes is one of 1 to 5 only if the second byte is 0, so the refusal is what is left.
-// Told in this order, a processor guesses few branches wrong: one at a spawn, end or sync, and at an access only whether it is a write.
+// Told in this order and not by a `match` on the kind, a processor guesses few branches wrong: one at a spawn, end or sync, and at an access
+// only whether it is a write (docs/landings/C-24.md).
 fn event_of(kind: u16, number: u16) -> Result<Event, Fault>
     ensures value { result ≡ told_of kind number }
     ensures decode_fits { DecodeFits result }

@@ -13,6 +13,7 @@ pub const NAME: usize = 64;
 
 pub const OPEN_TASKS: usize = 64;
 
+// The three work buffers are flat, with their parts behind one another, as the C interface has them.
 // Labels: English of strand s at s, Hebrew at HEBREW_LABELS + s.
 pub const LABELS: usize = 8192;
 

@@ -43,7 +43,8 @@ pub fn lines(
     Some(text_of(out, input, buffers, lists))
 }
 
-// The text at the start of a buffer that has room for every text.
+// The text at the start of a buffer that has room for every text. This and `judged` are not one with those of `line`, which give a line as a
+// vector: no vector without a heap has room for every text.
 // requires: there is room for the longest text.
 fn text_of(out: &mut [u8], input: &[u8], buffers: &mut WorkBuffers, lists: &mut RaceLists) -> usize
     requires { 397495 ≤ length out.old }

@@ -72,7 +72,7 @@ fn lowered(mark: Mark, after: usize, a: u64) -> Mark
     }
 }
 
-// The label of strand `next`, or the largest number where that is none.
+// The label of strand `next`, or the largest number where that is none. `next` is a link, as the C interface has it in the buffer.
 #[tactic(auto, unfolding(crate::specs::Order::above))]
 fn above(labels: &[u64], base: Base, next: usize) -> u64
     requires { base.labels + 4096 ≤ length labels.now }

@@ -30,7 +30,7 @@ pub struct Answer {
     pub counts: Counts,
 }
 
-// The three lists, as they are lent.
+// The three lists, as they are lent: three, and not one of triples, as the C interface has them.
 #[derive(Drop)]
 pub struct RaceLists<'a> {
     pub records: &'a mut [u32],
@@ -65,7 +65,8 @@ pub fn judge(
     judge_job(file, job, k, buffers, lists)
 }
 
-// The same for a file that has been checked, with what the check gave.
+// The same for a file that has been checked, with what the check gave. As `judge` it stands beside the call of its name in judging, which
+// shares what one event does and nothing behind it: what is answered, left and refused are other things.
 // requires: the job is what the check of this very file gives.
 pub fn judge_job(
     file: &[u8],

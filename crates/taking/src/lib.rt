@@ -14,7 +14,8 @@ use jobfile::Kind;
 use limits::{HEBREW_LABELS, ITS_STRAND, OPEN_TASKS, STANDING_READS, STRANDS};
 use strands::{Now, OpenTask};
 
-// The three work buffers, as they are lent.
+// The three work buffers, as they are lent. No type says that a call leaves in it the slices that it came with, so each call that is lent
+// one promises `SameReferences`.
 #[derive(Drop)]
 pub struct WorkBuffers<'a> {
     pub labels: &'a mut [u64],
@@ -22,7 +23,8 @@ pub struct WorkBuffers<'a> {
     pub places: &'a mut [u32],
 }
 
-// How far a run went: event `at` is next, and this is the state before it.
+// How far a run went: event `at` is next, and this is the state before it. No Option for the race that stopped it: from `at` a caller goes on
+// in either case, and whether that is the end it knows.
 #[derive(Clone, Copy)]
 pub struct Reach {
     pub at: usize,
