@@ -13,10 +13,8 @@ use input::MOST;
 use std::io::{Eprint, Print};
 use taking::WorkBuffers;
 
-// What is printed for the input, at the start of `out`; answers how many bytes.
-// requires: there is room for the longest line.
-fn printed(input: &[u8], out: &mut [u8]) -> usize
-    requires { 256 ≤ length out.old }
+// What is printed for the input, at the start of `out`, which has room for the longest line; answers how many bytes.
+fn printed(input: &[u8], out: &mut [u8; 256]) -> usize
     ensures put { Put (was out) 0 (printed_of input.now) result (is out) }
     ensures prefix_len { IsPrefixLen result (is out) }
 {

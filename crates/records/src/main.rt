@@ -15,10 +15,8 @@ use per_record::RaceLists;
 use std::io::{Eprint, Print};
 use taking::WorkBuffers;
 
-// What is printed for the input, at the start of `out`; answers how many bytes.
-// requires: there is room for the longest text.
-fn printed(input: &[u8], out: &mut [u8]) -> usize
-    requires { 397495 ≤ length out.old }
+// What is printed for the input, at the start of `out`, which has room for the longest text; answers how many bytes.
+fn printed(input: &[u8], out: &mut [u8; ROOM]) -> usize
     ensures put { Put (was out) 0 (printed_of input.now) result (is out) }
     ensures prefix_len { IsPrefixLen result (is out) }
 {
