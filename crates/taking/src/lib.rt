@@ -138,10 +138,7 @@ fn record_at(part: &[u8], i: usize) -> usize
     requires { 4 * i + 4 ≤ length part.now }
     ensures { result ≡ record_of ((event_trace (event_at part.now)).act i) }
 {
-    match jobfile::access_of(jobfile::event_at(part, i)) {
-        Some(access) => access.record as usize,
-        None => 0,
-    }
+    jobfile::access_of(jobfile::event_at(part, i)).map_or(0, |access| access.record as usize)
 }
 
 // The strand of a standing read that an access races with if it is parallel to it; for a read, which races with none, its own strand.
