@@ -30,7 +30,8 @@ pub struct Answer {
     pub counts: Counts,
 }
 
-// The three lists, as they are lent: three, and not one of triples, as the C interface has them.
+// The three lists, as they are lent: three, and not one of triples, as the C interface has them. That a call leaves in it the lists that it
+// came with is `SameLists`, for the reason told beside the work buffers.
 #[derive(Drop)]
 pub struct RaceLists<'a> {
     pub records: &'a mut [u32],
