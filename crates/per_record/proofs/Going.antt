@@ -139,7 +139,7 @@ module _ {part : List ℕ} {M : Marks} {i k : ℕ} {B : Buffers} {T : OpenTasks}
       before_end : reach.at < to
       before_end = less reach.at to went.within race
 
-      within_run : reach.at < k
+      pub within_run : reach.at < k
       within_run = omega (arith, before_end, S.within, stretch_bounds i k A.next)
 
       raced : Races part reach.at
@@ -159,7 +159,7 @@ module _ {part : List ℕ} {M : Marks} {i k : ℕ} {B : Buffers} {T : OpenTasks}
       }
 
       module _ (found : Found) (F : FirstFound part reach.at found) where
-        mark_there : found.«record» < 4096
+        pub mark_there : found.«record» < 4096
         mark_there = rw (its_number raced found F) (has_mark A.going.run reach.at within_run raced.kind raced.number raced.is_an_access)
 
         pub race_bounds : (reach.at < 1000000) × (found.«record» < 4096)

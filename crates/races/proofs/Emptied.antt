@@ -1,11 +1,12 @@
 -- Runs of entries set to none: four of them empty the places. Assumes nothing.
-use mathlib.Core.Path.{◌≡◌, ◌∙◌}
+use mathlib.Core.Path.{◌≡◌, sym, ◌∙◌}
 use mathlib.Core.Logic.{◌≢◌}
 use mathlib.Core.List.{List}
 use Prim.Native.Nat.{ℕ, zero, suc, ◌+◌, ◌*◌, ◌-◌, ◌≤◌, ◌<◌}
+use native.Mathlib.Nat.{add-zero}
 use native.Mathlib.Omega.{arith}
 use native.Mathlib.Decide.{dec_le}
-use lib.ListN.{length, get_or}
+use lib.ListN.{length, get_or, take-append-drop}
 use Rattle.std.proofs.lemmas.Grind.{common_steps}
 use Rattle.std.proofs.lemmas.List.{get_or-replicate}
 use Rattle.races.specs.Entries.{filled, HasPlace, Empty}
@@ -14,6 +15,10 @@ use Rattle.races.specs.Mark.{layout}
 filled_length : (P : List ℕ) (from k : ℕ) → from + k ≤ length P → length (filled P from k) ≡ length P
 unfolding filled
 filled_length P from k room = grind (arith, common_steps)
+
+pub filled_start : (P : List ℕ) (from : ℕ) → P ≡ filled P from 0
+unfolding filled
+filled_start P from = sym (rw add-zero (take-append-drop from P))
 
 filled_in : (P : List ℕ) (from k i : ℕ) → from ≤ i → i < from + k → from + k ≤ length P → get_or (filled P from k) i 0 ≡ 4294967295
 unfolding filled
