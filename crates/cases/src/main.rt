@@ -7,45 +7,72 @@ ghost use Rattle.jobfile.specs.Lent.{is};
 ghost use Rattle.io.specs.Counts.{IsPrefixLen};
 
 use jobfile::Refusal;
-use judging::Answer;
-use std::io::{Print, Result as Printed};
+use judging::{Answer, Counts};
+use std::fmt::Display;
+use std::io::Print;
 use taking::WorkBuffers;
 
 // A job and how often it stands in a row.
 type Repeated<'a> = (usize, &'a str);
 
-// The jobs of the rules from the second on, which the numbers count.
-const SMALL: [&str; 9] = [
-    "W0 R0",
-    "S W0 E W0",
-    "S W0 E J W0",
-    "S R0 E R0 W0",
-    "S R0 W0 E W0",
-    "S W0 E S W0 E",
-    "S W0 E J S W0 E",
-    "S S W0 E J E W0",
-    "S W0 E S J W0 E",
+// The jobs of the rules from the second on, each behind its number.
+const SMALL: [(&str, &str); 9] = [
+    ("2 ", "W0 R0"),
+    ("3 ", "S W0 E W0"),
+    ("4 ", "S W0 E J W0"),
+    ("5 ", "S R0 E R0 W0"),
+    ("6 ", "S R0 W0 E W0"),
+    ("7 ", "S W0 E S W0 E"),
+    ("8 ", "S W0 E J S W0 E"),
+    ("9 ", "S S W0 E J E W0"),
+    ("10 ", "S W0 E S J W0 E"),
 ];
 
-fn report<R: Print>(rt: &R, answer: Result<Answer, Refusal>) -> Printed<()> {
+// Writes a word or a number to standard output. A failed write is not told, and what follows is written all the same: the output is
+// compared whole.
+fn say<R: Print, D: Display + Drop>(rt: &R, what: D) {
+    let _ = print!(rt; "{what}");
+}
+
+fn counts<R: Print>(rt: &R, counts: Counts) {
+    say(rt, " strands ");
+    say(rt, counts.strands);
+    say(rt, " english ");
+    say(rt, counts.english);
+    say(rt, " hebrew ");
+    say(rt, counts.hebrew);
+}
+
+fn report<R: Print>(rt: &R, answer: Result<Answer, Refusal>) {
     match answer {
-        Ok(Answer::Clean(c)) => println!(rt;
-            ": clean strands {} english {} hebrew {}",
-            c.strands, c.english, c.hebrew
-        ),
+        Ok(Answer::Clean(counted)) => {
+            say(rt, ": clean");
+            counts(rt, counted);
+        }
         Ok(
             Answer::Race {
                 first,
                 second,
                 record,
-                counts: c,
+                counts: counted,
             },
-        ) => println!(rt;
-            ": race {first} {second} record {record} strands {} english {} hebrew {}",
-            c.strands, c.english, c.hebrew
-        ),
-        Err(r) => println!(rt; ": refused {} event {}", r.fault.number(), r.event),
+        ) => {
+            say(rt, ": race ");
+            say(rt, first);
+            say(rt, " ");
+            say(rt, second);
+            say(rt, " record ");
+            say(rt, record);
+            counts(rt, counted);
+        }
+        Err(r) => {
+            say(rt, ": refused ");
+            say(rt, r.fault.number());
+            say(rt, " event ");
+            say(rt, r.event);
+        }
     }
+    say(rt, "\n");
 }
 
 // The bytes of an event as the rules write it: a letter, and the record of a read or a write, 0 to 9.
@@ -106,57 +133,54 @@ fn judged(name: &[u8], events: &[u8], labels: &mut [u64]) -> Result<Answer, Refu
 }
 
 // Jobs in a row, judged as one.
-fn run<R: Print>(rt: &R, jobs: &[Repeated<'_>]) -> Printed<()> {
+fn run<R: Print>(rt: &R, jobs: &[Repeated<'_>]) {
     let mut labels = [0u64; limits::LABELS];
     let mut events = io::large_buffer();
     let n = put_all(&mut events, jobs);
-    report(rt, judged(b"", &events[..n], &mut labels))
+    report(rt, judged(b"", &events[..n], &mut labels));
 }
 
-fn titled<R: Print>(rt: &R, title: &str, jobs: &[Repeated<'_>]) -> Printed<()> {
-    print!(rt; "{title}")?;
-    run(rt, jobs)
+fn titled<R: Print>(rt: &R, title: &str, jobs: &[Repeated<'_>]) {
+    say(rt, title);
+    run(rt, jobs);
 }
 
 // The labels of the first three strands, from a place of the buffer on.
-fn three<R: Print>(rt: &R, order: &str, labels: &[u64], at: usize) -> Printed<()>
+fn three<R: Print>(rt: &R, title: &str, labels: &[u64], at: usize)
     requires { at + 3 ≤ length labels.now }
 {
-    println!(rt;
-        "L4 {order} labels {} {} {}",
-        labels[at],
-        labels[at + 1],
-        labels[at + 2]
-    )
+    say(rt, title);
+    say(rt, labels[at]);
+    say(rt, " ");
+    say(rt, labels[at + 1]);
+    say(rt, " ");
+    say(rt, labels[at + 2]);
+    say(rt, "\n");
 }
 
 // The whole file of the rules, with the labels that it leaves.
-fn whole<R: Print>(rt: &R) -> Printed<()> {
+fn whole<R: Print>(rt: &R) {
     let mut labels = [0u64; limits::LABELS];
     let mut events = io::large_buffer();
     let job = "W0 S R0 W1 E R0 W1 J";
     let n = put_all(&mut events, &[(1, job)]);
-    print!(rt; "L4 {job}")?;
-    report(rt, judged(b"L4", &events[..n], &mut labels))?;
-    three(rt, "English", &labels, 0)?;
-    three(rt, "Hebrew", &labels, limits::HEBREW_LABELS)
+    say(rt, "L4 ");
+    say(rt, job);
+    report(rt, judged(b"L4", &events[..n], &mut labels));
+    three(rt, "L4 English labels ", &labels, 0);
+    three(rt, "L4 Hebrew labels ", &labels, limits::HEBREW_LABELS);
 }
 
-fn all<R: Print>(rt: &R) -> Printed<()> {
-    titled(rt, "1 no events", &[])?;
-    for (i, job) in SMALL.iter().enumerate() {
-        print!(rt; "{} {job}", i + 2)?;
-        run(rt, &[(1, *job)])?;
-    }
-    titled(rt, "11 63 S, 63 E", &[(63, "S"), (63, "E")])?;
-    titled(rt, "11 64 S, 64 E", &[(64, "S"), (64, "E")])?;
-    titled(rt, "11 2047 S E, J", &[(2047, "S E"), (1, "J")])?;
-    titled(rt, "11 2048 S E", &[(2048, "S E")])?;
-    titled(rt, "12 32 S E", &[(32, "S E")])?;
-    whole(rt)
-}
-
-// A failed write is not told: the output is compared whole.
 fn main(rt: HostRuntime) {
-    let _ = all(&rt);
+    titled(&rt, "1 no events", &[]);
+    for (number, job) in SMALL {
+        say(&rt, number);
+        titled(&rt, job, &[(1, job)]);
+    }
+    titled(&rt, "11 63 S, 63 E", &[(63, "S"), (63, "E")]);
+    titled(&rt, "11 64 S, 64 E", &[(64, "S"), (64, "E")]);
+    titled(&rt, "11 2047 S E, J", &[(2047, "S E"), (1, "J")]);
+    titled(&rt, "11 2048 S E", &[(2048, "S E")]);
+    titled(&rt, "12 32 S E", &[(32, "S E")]);
+    whole(&rt);
 }
