@@ -1,5 +1,6 @@
 pub mod OneNumber
 pub mod Table
+pub mod OneAnswer
 pub mod Rows
 pub mod Tests
 pub mod Faults

@@ -2,7 +2,7 @@
 -- exact. Assumes nothing.
 use Prim.Native.Nat.{ℕ}
 use mathlib.Core.Path.{◌≡◌, refl, sym, ap, ◌∙◌}
-use mathlib.Core.Logic.{◌⊎◌, inl, inr}
+use mathlib.Core.Logic.{◌⊎◌, inl, inr, ◌↔◌}
 use mathlib.Core.List.{[], ◌∷◌, ◌++◌}
 use native.Mathlib.Omega.{arith}
 use Rattle.trailer.specs.declared.fault.Fault.{Fault}
@@ -69,22 +69,30 @@ module _ {A : Type 0} where
   ends_behind front back taken refused answer none (inl (e, rest)) = inl (e, none_both front back none rest)
   ends_behind front back taken refused answer none (inr (f, m, e, g)) = inr (f, m, e, given_back front back (number_of f) m none g)
 
+  -- the same by kind: an exact answer is the refusal of a kind and of event m exactly if the table gives the kind's number and m
+  pub exact_of_kind : {table : Table} {taken : A} {refused : Fault → ℕ → A} {answer : A} → Exact table taken refused answer
+      → (f : Fault) (m : ℕ) → (answer ≡ refused f m) ↔ Given table (number_of f) m
+  exact_of_kind E f m = (
+    λ e. (E.refusal (number_of f) m).0 (f, refl, e),
+    λ g. let s = (E.refusal (number_of f) m).1 g in rw (← one_kind s.0 f s.1) s.2,
+  )
+
   -- of answers whose refusals tell their number and their event
   module _ (table : Table) (taken : A) (refused : Fault → ℕ → A) (answer : A) (number event : A → ℕ)
       (told : (f : Fault) (m : ℕ) → (number (refused f m) ≡ number_of f) × (event (refused f m) ≡ m)) where
     pub exact : ((f : Fault) (m : ℕ) → ¬ (taken ≡ refused f m)) → Ends table taken refused answer → Exact table taken refused answer
     exact apart (inl (e, none)) = record {
-      refusal = λ f m. (λ r. absurd (apart f m (sym e ∙ r)), λ g. absurd (none_given table (number_of f) m none g));
+      refusal = λ n m. (λ r. absurd (apart r.0 m (sym e ∙ r.2)), λ g. absurd (none_given table n m none g));
       none = (λ r. none, λ r. e);
     }
     exact apart (inr (k, i, e, G)) = record {
-      refusal = λ f m. (
+      refusal = λ n m. (
         λ r.
-            let same : refused f m ≡ refused k i = sym r ∙ e in
-            let x : number_of f ≡ number_of k = sym (told f m).0 ∙ ap number same ∙ (told k i).0 in
-            let y : m ≡ i = sym (told f m).1 ∙ ap event same ∙ (told k i).1 in
-            rw (x, y) G,
-        λ g. let o = given_once table (number_of k) i (number_of f) m G g in rw (← one_kind k f o.0, ← o.1) e,
+            let same : refused r.0 m ≡ refused k i = sym r.2 ∙ e in
+            let x : number_of r.0 ≡ number_of k = sym (told r.0 m).0 ∙ ap number same ∙ (told k i).0 in
+            let y : m ≡ i = sym (told r.0 m).1 ∙ ap event same ∙ (told k i).1 in
+            rw (← r.1, x, y) G,
+        λ g. let o = given_once table (number_of k) i n m G g in (k, o.0, rw (← o.1) e),
       );
       none = (λ r. absurd (apart k i (sym r ∙ e)), λ none. absurd (none_given table (number_of k) i none G));
     }

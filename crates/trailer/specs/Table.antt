@@ -35,10 +35,10 @@ abbrev pub NoRow : Table → Type 0
 NoRow [] = Unit {0}
 NoRow (rows ∷ table) = Nowhere rows × NoRow table
 
--- An answer is exact by a table: it is the refusal of a kind and of event m exactly if the table gives the kind's number and m, and what a call
--- answers that is not refused exactly if no row holds.
+-- An answer is exact by a table: it is the refusal of event m whose kind has number n exactly if the table gives these, and what a call
+-- answers that is not refused exactly if no row holds. So a table that gives a number which no kind has fits no answer.
 pub record Exact {A : Type 0} (table : Table) (taken : A) (refused : Fault → ℕ → A) (answer : A) : Type 0 where
-  pub refusal : (f : Fault) (m : ℕ) → (answer ≡ refused f m) ↔ Given table (number_of f) m
+  pub refusal : (n m : ℕ) → ((f : Fault) × (number_of f ≡ n) × (answer ≡ refused f m)) ↔ Given table n m
   pub none : (answer ≡ taken) ↔ NoRow table
 
 -- The same of the paper's values of an answer, the number and the event of its refusal; number 0 is no refusal.

@@ -11,7 +11,8 @@ pub struct Closure {
     pub outside: BTreeMap<String, BTreeSet<String>>,
 }
 
-/// Where a search starts: the promises of all public functions that ask nothing, and these items; `*` is every one of a file.
+/// Where a search starts: the promises of all public functions that ask nothing, of traits' blocks and of types, and these items; `*` is
+/// every one of a file.
 #[derive(Debug, Default, PartialEq)]
 pub struct Roots {
     pub contracts: bool,

@@ -28,7 +28,7 @@ pub enum Kind {
     Definition,
     /// What has a statement, and a proof that nobody needs to read.
     Theorem,
-    /// A public function that asks nothing of its caller, and one that does.
+    /// A public function that asks nothing of its caller, or a law or ghost field, and a function that does.
     Call,
     Step,
 }

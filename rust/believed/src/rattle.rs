@@ -1,4 +1,5 @@
-//! Reads a file of code: its `use` lines, the promises of its public functions, and the types that it declares.
+//! Reads a file of code: its `use` lines, the promises of its public functions, of its traits' `impl` blocks and of its types, and the types
+//! that it declares.
 
 use crate::antt::read_use;
 use crate::words::{bound, cited, words};
@@ -11,6 +12,9 @@ pub const CODE: &str = "::";
 pub fn read(text: &str) -> Source {
     let mut source = Source::default();
     let lines: Vec<&str> = text.lines().collect();
+    let hidden = hidden(&lines);
+    // the line at which a trait's block ends
+    let mut shared = 0;
     for (at, line) in lines.iter().enumerate() {
         let line = line.trim_start();
         let word = line.strip_prefix("pub ").unwrap_or(line);
@@ -19,13 +23,83 @@ pub fn read(text: &str) -> Source {
             source.uses.extend(read_use(line));
         } else if word.starts_with("use ") {
             source.uses.extend(code_use(word));
-        } else if line.starts_with("pub fn ") || line.starts_with("pub extern ") {
+        } else if is_public(line, at < shared) {
             source.items.extend(call(&code(), said(&lines, at)));
+        } else if line.starts_with("impl ") || line.starts_with("impl<") {
+            if let Some((owner, body, length)) = implemented(&code(), &hidden) {
+                source.items.extend(ghosts(body, &owner, &said(&lines, at)));
+                shared = at + length;
+            }
         } else if word.starts_with("enum ") || word.starts_with("struct ") {
-            source.items.extend(declared(&code(), word.starts_with("enum "), said(&lines, at)));
+            let code = code();
+            source.items.extend(declared(&code, word.starts_with("enum "), said(&lines, at)));
+            if let (true, Some((owner, body))) = (line.starts_with("pub "), brackets(&code)) {
+                source.items.extend(ghosts(body, &owner, &said(&lines, at)));
+            }
         }
     }
     source
+}
+
+/// Whether a line begins a public function; those of a trait's block are public without the word.
+fn is_public(line: &str, is_shared: bool) -> bool {
+    line.starts_with("pub fn ") || line.starts_with("pub extern ") || (is_shared && line.starts_with("fn "))
+}
+
+/// The types and traits that the file keeps to itself.
+fn hidden(lines: &[&str]) -> BTreeSet<String> {
+    let declared = |line: &&str| {
+        let rest = ["struct ", "enum ", "trait "].iter().find_map(|word| line.trim_start().strip_prefix(word))?;
+        identifiers(rest).next().map(str::to_string)
+    };
+    lines.iter().filter_map(declared).collect()
+}
+
+fn identifiers(text: &str) -> impl Iterator<Item = &str> {
+    text.split(|c: char| !c.is_alphanumeric() && c != '_').filter(|word| !word.is_empty())
+}
+
+/// `impl Trait for Type { .. }`: the type, what stands in the brackets, and how many lines the block has. Nobody else can use one that
+/// names what the file keeps to itself.
+fn implemented<'a>(text: &'a str, hidden: &BTreeSet<String>) -> Option<(String, &'a str, usize)> {
+    let open = text.find('{')?;
+    let head = text[..open].split_whitespace().collect::<Vec<_>>().join(" ");
+    let owner = head.split_once(" for ")?.1.split(['<', ' ']).next()?;
+    if identifiers(&head).any(|word| hidden.contains(word)) {
+        return None;
+    }
+    let (body, length) = within(&text[open..], '{', '}')?;
+    Some((identifiers(owner).last()?.to_string(), body, text[..open + length].lines().count()))
+}
+
+/// What the brackets of an `impl` block or a type promise without a function: a law, `ghost name = { .. };`, or a ghost field,
+/// `ghost name: { .. },`, which every value of the type meets.
+fn ghosts(body: &str, owner: &str, said: &str) -> Vec<Item> {
+    let lines: Vec<&str> = body.lines().collect();
+    let (mut found, mut depth) = (Vec::new(), 0);
+    for (at, line) in lines.iter().enumerate() {
+        if let (0, Some((name, statement))) = (depth, ghost(&lines[at..].join("\n"))) {
+            let (name, said) = (format!("{owner}::{name}"), said.to_string());
+            let (text, clauses, makes) = (Vec::new(), Vec::new(), Vec::new());
+            found.push(Item { name, kind: Kind::Call, said, text, statement, clauses, makes });
+        }
+        depth += line.matches('{').count();
+        depth -= line.matches('}').count();
+    }
+    found
+}
+
+/// The name of the law or ghost field that a text begins with, and what it cites. A ghost clause of a function ends with neither mark.
+fn ghost(text: &str) -> Option<(String, Vec<String>)> {
+    let rest = text.trim_start_matches(' ').strip_prefix("ghost ")?;
+    let open = rest.find('{')?;
+    let name = rest[..open].trim_end().strip_suffix([':', '='])?.trim_end();
+    let (member, length) = within(&rest[open..], '{', '}')?;
+    if !rest[open + length..].starts_with([';', ',']) {
+        return None;
+    }
+    let all = words(member);
+    Some((name.to_string(), cited(&all, &bound(&all))))
 }
 
 /// The comment above a line; attributes may stand between.
@@ -102,20 +176,27 @@ fn parameter_names(parameters: &str) -> BTreeSet<String> {
     parameters.split(',').filter_map(before_colon).collect()
 }
 
-/// A struct or an enum: the types that it is made of.
+/// A struct or an enum: the types that it is made of, and what its ghost fields cite.
 fn declared(text: &str, is_enum: bool, said: String) -> Option<Item> {
-    let start = text.find(if is_enum { "enum " } else { "struct " })? + if is_enum { 5 } else { 7 };
-    let name: String = text[start..].chars().take_while(|c| c.is_alphanumeric() || *c == '_').collect();
-    let open = start + text[start..].find(['{', '(', ';'])?;
-    let body = match &text[open..=open] {
-        "{" => within(&text[open..], '{', '}')?.0,
-        "(" => within(&text[open..], '(', ')')?.0,
-        _ => "",
-    };
+    let (name, body) = brackets(text)?;
+    let mut statement = type_names(body, usize::from(is_enum));
+    statement.extend(ghosts(body, &name, "").into_iter().flat_map(|ghost| ghost.statement));
     let text = body.lines().map(|line| line.trim().trim_end_matches(',').trim_start_matches("pub ").to_string());
     let text = std::iter::once(name.clone()).chain(text.filter(|line| !line.is_empty())).collect();
-    let statement = type_names(body, usize::from(is_enum));
     Some(Item { name, kind: Kind::Definition, said, text, statement, clauses: Vec::new(), makes: Vec::new() })
+}
+
+/// The name of the struct or enum that a text begins with, and what stands in its brackets.
+fn brackets(text: &str) -> Option<(String, &str)> {
+    let rest = text.trim_start().trim_start_matches("pub ");
+    let rest = rest.strip_prefix("enum ").or_else(|| rest.strip_prefix("struct "))?;
+    let open = rest.find(['{', '(', ';'])?;
+    let body = match &rest[open..=open] {
+        "{" => within(&rest[open..], '{', '}')?.0,
+        "(" => within(&rest[open..], '(', ')')?.0,
+        _ => "",
+    };
+    Some((identifiers(rest).next()?.to_string(), body))
 }
 
 /// The names of types in the body of one, at least so deep in brackets: the variants of an enum stand at depth 0 and are no types.
@@ -161,6 +242,44 @@ pub struct Job {
     pub first: Mark,
 }
 
+pub struct Tasks {
+    pub depth: usize,
+    ghost within: { (1 ≤ depth) × below depth },
+}
+
+struct Own {
+    count: usize,
+    ghost small: { Small count },
+}
+
+impl From<Job> for crate::Counts {
+    ghost from_gives = { λ job counts.
+        counts ≡ counts_in job };
+
+    fn from(job: Job) -> Counts
+        ensures { Counted result }
+    {
+        nothing(job)
+    }
+}
+
+impl From<Own> for Counts {
+    ghost from_gives = { λ own counts. Owned counts };
+}
+
+impl Job {
+    pub fn size(&self) -> usize
+        ensures { result ≡ size_of self }
+    {
+        self.inner()
+    }
+
+    fn inner(&self) -> usize
+        ensures { Inner result }
+    {
+    }
+}
+
 // Judges a file.
 #[unsafe(no_mangle)]
 pub extern \"C\" fn judge(file: &[u8], first: u64) -> Answer
@@ -189,6 +308,28 @@ fn hidden() ensures { Hidden } {}
         let step = source.item("step").unwrap();
         assert_eq!((step.kind, step.said.as_str()), (Kind::Step, "The same."));
         assert!(source.item("hidden").is_none());
+    }
+
+    #[test]
+    fn promises_of_impl_blocks() {
+        let source = read(FILE);
+        let law = source.item("Counts::from_gives").unwrap();
+        assert_eq!((law.kind, law.statement.join(" ").as_str()), (Kind::Call, "≡ counts_in"));
+        let laws = source.items.iter().filter(|item| item.name.ends_with("from_gives"));
+        assert_eq!(laws.count(), 1, "nobody else can convert from `Own`");
+        assert_eq!(source.item("from").unwrap().statement, ["Counted"]);
+        assert_eq!(source.item("size").unwrap().statement, ["≡", "size_of", "self"]);
+        assert!(source.item("inner").is_none());
+    }
+
+    #[test]
+    fn promises_of_types() {
+        let source = read(FILE);
+        let within = source.item("Tasks::within").unwrap();
+        assert_eq!((within.kind, within.statement.join(" ").as_str()), (Kind::Call, "1 ≤ depth × below depth"));
+        assert_eq!(source.item("Tasks").unwrap().statement, within.statement);
+        assert!(source.item("Own::small").is_none());
+        assert!(source.item("Own").unwrap().statement.contains(&"Small".to_string()));
     }
 
     #[test]
