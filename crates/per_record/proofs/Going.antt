@@ -10,7 +10,6 @@ use native.Mathlib.Omega.{arith}
 use native.Mathlib.Decide.{dec_le}
 use native.Mathlib.Numerals.{add-one}
 use lib.ListN.{set}
-use Rattle.std.specs.Int.{w32, to_le_bytes}
 use Rattle.std.specs.Prelude.{Some}
 use Rattle.jobfile.specs.Accepted.{RecordBelow}
 use Rattle.jobfile.specs.Events.{access_of}
@@ -28,7 +27,7 @@ use Rattle.taking.specs.declared.Reach.{Reach}
 use Rattle.taking.specs.declared.Found.{Found}
 use Rattle.taking.proofs.Reaching.{tasks_none}
 use Rattle.taking.proofs.Turned.{frozen_midway, raced_midway, frozen_still}
-use Rattle.per_record.specs.Marks.{Marks, mark_in, of_marked, frozen_at, HasMark, stretch_end, FirstFrom}
+use Rattle.per_record.specs.Marks.{Marks, mark_in, low_bytes, of_marked, frozen_at, HasMark, stretch_end, FirstFrom}
 use Rattle.per_record.specs.declared.Mark.{Mark}
 use Rattle.per_record.specs.Goes.{Going, MayGo, past_frozen, past_all, past_race, Goes}
 use Rattle.per_record.proofs.Stretches.{stretch_bounds}
@@ -165,7 +164,7 @@ module _ {part : List ℕ} {M : Marks} {i k : ℕ} {B : Buffers} {T : OpenTasks}
         pub race_bounds : (reach.at < 1000000) × (found.«record» < 4096)
         race_bounds = (omega (arith, within_run, A.going.run.within, A.going.run.small), mark_there)
 
-        pub goes_past_race : (m : Mark) → m ≡ record { kind = found.kind; second = to_le_bytes w32 reach.at }
+        pub goes_past_race : (m : Mark) → m ≡ record { kind = found.kind; second = low_bytes reach.at }
             → Goes part i k B T M now B' T' (set M found.«record» (Some m)) (record { at = reach.at + 1; state = reach.state })
         goes_past_race m e = rw (add-one reach.at) (record {
           went = λ records B₀ G.

@@ -9,7 +9,6 @@ use Prim.Native.Nat.{ℕ, suc, ◌<◌}
 use native.Mathlib.Omega.{arith}
 use lib.ListN.{set, replicate, length-set, length-replicate, get_or-replicate}
 use lib.Seq.{get_or-set_same, get_or-set_other}
-use Rattle.std.specs.Int.{w32, to_le_bytes}
 use Rattle.std.specs.Prelude.{Option as Maybe, None, Some}
 use Rattle.std.specs.Option.{is_some}
 use Rattle.jobfile.specs.Trace.{event_at}
@@ -23,7 +22,7 @@ use Rattle.taking.specs.Turns.{Still, Races, FirstFound}
 use Rattle.taking.specs.declared.Found.{Found}
 use Rattle.taking.proofs.Turned.{raced_second, raced_others}
 use Rattle.per_record.specs.declared.Mark.{Mark}
-use Rattle.per_record.specs.Marks.{Marks, mark_in, mark_at, Marked}
+use Rattle.per_record.specs.Marks.{Marks, mark_in, low_bytes, mark_at, Marked}
 use Rattle.per_record.proofs.Marking.{kind_back}
 
 -- before any event none is set
@@ -59,7 +58,7 @@ module _ {part : List ℕ} {n : ℕ} (W : Races part n) (found : Found) (F : Fir
   pub its_number : found.«record» ≡ W.number
   its_number = F.record_is ∙ ap (λ a. record_of (act_of a)) W.is_an_access
 
-  pub raced_marked : found.«record» < 4096 → (m : Mark) → m ≡ record { kind = found.kind; second = to_le_bytes w32 n } → (M : Marks) → Marked (event_at part) n M
+  pub raced_marked : found.«record» < 4096 → (m : Mark) → m ≡ record { kind = found.kind; second = low_bytes n } → (M : Marks) → Marked (event_at part) n M
       → Marked (event_at part) (suc n) (set M found.«record» (Some m))
   raced_marked below m e M marks = record {
     size = length-set M found.«record» (Some m) ∙ marks.size;

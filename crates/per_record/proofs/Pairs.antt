@@ -7,7 +7,6 @@ use Prim.Native.Nat.{ℕ, zero, suc, ◌+◌, ◌*◌, ◌≤◌, ◌<◌}
 use native.Mathlib.Omega.{arith}
 use lib.ListN.{get_or}
 use Rattle.std.specs.Prelude.{None, Some}
-use Rattle.std.proofs.lemmas.Nat.{from_le_bytes-to_le_bytes_4}
 use Rattle.jobfile.specs.declared.event.Event.{Event}
 use Rattle.jobfile.specs.declared.event.Kind.{Kind}
 use Rattle.jobfile.specs.declared.event.Kind.TheVariants.{Write, Read}
@@ -20,7 +19,7 @@ use Rattle.races.proofs.Found.{found_parts, places_enough}
 use Rattle.races.proofs.Events.{lawful, fit}
 use Rattle.per_record.specs.Listed.{pair_in}
 use Rattle.per_record.specs.Marks.{Marks, mark_in, mark_of, Marked, pair_held}
-use Rattle.per_record.proofs.Marking.{kind_back}
+use Rattle.per_record.proofs.Marking.{kind_back, low_bytes_back}
 
 -- the kind of a class
 kind_of_class : (c : ℕ) → c < 2 → (kind : Kind) × (rank kind ≡ c)
@@ -71,7 +70,7 @@ module _ (ev : ℕ → Event) (r k : ℕ) where
         let m : mark_in M r ≡ Some (mark_of (rank F.kind) j) = marks.marks r (omega arith) ∙ rw (e, F.class) in
         let event : get_or P (8192 * rank F.kind + r) 0 ≡ F.first =
         shown.event r (rank F.kind) (record { on_its_record = below; below = rank_below F.kind }) ∙ rw (e, F.holds) in
-        rw (m, kind_back F.kind, event, e, F.names, from_le_bytes-to_le_bytes_4 j (omega (arith, F.within))) refl
+        rw (m, kind_back F.kind, event, e, F.names, low_bytes_back j (omega (arith, F.within))) refl
 
     pub pair_held_lem : pair_held M P r ≡ pair_in ev k r
     pair_held_lem = go (second_of rules (event_trace ev) r k) refl

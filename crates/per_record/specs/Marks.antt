@@ -1,6 +1,6 @@
 -- The marks of the records, which the call keeps for itself: of one that has raced, which event was the second and which of its places holds
 -- the first; it is frozen from then on.
-use Rattle.std.specs.Prelude.{◌≡◌, List, Bool, true, false, ℕ, zero, suc, ◌+◌, ◌*◌, ◌≤◌, ◌<◌, length, get_or, min, Option, None, Some}
+use Rattle.std.specs.Prelude.{◌≡◌, List, Bool, true, false, ℕ, zero, suc, ◌+◌, ◌*◌, ◌≤◌, ◌<◌, length, get_or, min, Option, None, Some, [], ◌∷◌, take}
 use Rattle.std.specs.Option.{is_some}
 use Rattle.std.specs.Int.{w32, to_le_bytes, from_le_bytes}
 use Rattle.std.proofs.Math.Option
@@ -28,9 +28,16 @@ abbrev pub kind_of : ℕ → Kind
 kind_of zero = Write
 kind_of (suc class) = Read
 
+-- a number below 2^24 as its three bytes, the low one first, and back
+abbrev pub low_bytes : ℕ → List ℕ
+low_bytes n = take 3 (to_le_bytes w32 n)
+
+abbrev pub of_low_bytes : List ℕ → ℕ
+of_low_bytes bytes = from_le_bytes w32 (get_or bytes 0 0 ∷ get_or bytes 1 0 ∷ get_or bytes 2 0 ∷ 0 ∷ [])
+
 -- the mark for the class of the first and for the second
 abbrev pub mark_of : ℕ → ℕ → Mark
-mark_of class second = record { kind = kind_of class; second = to_le_bytes w32 second }
+mark_of class second = record { kind = kind_of class; second = low_bytes second }
 
 -- the mark of record r, by its second and what that finds
 module _ (ev : ℕ → Event) where
@@ -70,7 +77,7 @@ pub record FirstFrom (test : ℕ → Bool) (from end r : ℕ) : Type 0 where
 -- the pair of record r that a mark of it and the places tell
 abbrev pub pair_by : Option Mark → List ℕ → ℕ → Pair
 pair_by None P r = no_pair
-pair_by (Some m) P r = pair (get_or P (8192 * rank m.kind + r) 0) (from_le_bytes w32 m.second)
+pair_by (Some m) P r = pair (get_or P (8192 * rank m.kind + r) 0) (of_low_bytes m.second)
 
 abbrev pub pair_held : Marks → List ℕ → ℕ → Pair
 pair_held M P r = pair_by (mark_in M r) P r

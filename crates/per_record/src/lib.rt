@@ -40,11 +40,12 @@ pub struct RaceLists<'a> {
 }
 
 // The mark of a record that has raced: which kind of its places holds the first, and which event was the second. The number stands as its
-// four bytes: so an entry of the marks takes six bytes and not twelve, and all of them stay within 32 KiB of local memory.
+// three low bytes, which an event's number fits: so an entry of the marks takes five bytes and not twelve, and all of them 20 KiB of local
+// memory, which each call has to fill.
 #[derive(Clone, Copy)]
 pub struct Mark {
     pub kind: Kind,
-    pub second: [u8; 4],
+    pub second: [u8; 3],
 }
 
 // How many events are looked at for accesses of frozen records before they are run. A race on the way has the rest looked at again.
@@ -165,9 +166,10 @@ fn go_on(
     let labels = &mut *buffers.labels;
     let places = &mut *buffers.places;
     let found = taking::find(part, reach.at, reach.state, labels, places);
+    let [low, middle, high, _] = (reach.at as u32).to_le_bytes();
     marks[found.record] = Some(Mark {
         kind: found.kind,
-        second: (reach.at as u32).to_le_bytes(),
+        second: [low, middle, high],
     });
     Reach {
         at: reach.at + 1,
@@ -236,7 +238,8 @@ fn enter(
             let kind = mark.kind;
             lists.records[n] = r as u32;
             lists.firsts[n] = races::held(places, kind, r) as u32;
-            lists.seconds[n] = u32::from_le_bytes(mark.second);
+            let [low, middle, high] = mark.second;
+            lists.seconds[n] = u32::from_le_bytes([low, middle, high, 0]);
             n + 1
         }
         None => n,
