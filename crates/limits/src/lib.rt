@@ -29,6 +29,9 @@ pub const BACK: usize = 4096;
 // No strand, as a link holds it. A number and no Option, since the C interface shows what the buffer of links holds.
 pub const NO_LINK: u16 = 65535;
 
+// The same as a number, for a caller that reads a link as one. Here none does: a strand that there may be is an Option.
+pub const NO_STRAND: usize = 65535;
+
 // Places: the last write's event of record r at r, the standing read's at STANDING_READS + r, and the strand of each ITS_STRAND behind.
 pub const PLACES: usize = 16384;
 
