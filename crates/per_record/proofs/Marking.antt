@@ -1,10 +1,21 @@
--- The kind of a mark's class is that whose rank it is. Assumes nothing.
+-- What a mark tells: the kind of its class is that whose rank it is, and an access is of a frozen record where the record's mark is there.
+-- Assumes nothing.
 use mathlib.Core.Path.{◌≡◌, refl}
+use mathlib.Core.Bool.{Bool, false}
+use Rattle.std.specs.Prelude.{Option, None, Some}
+use Rattle.std.specs.Option.{is_some, MatchOption}
+use Rattle.jobfile.specs.declared.event.Access.{Access}
 use Rattle.jobfile.specs.declared.event.Kind.{Kind}
 use Rattle.jobfile.specs.declared.event.Kind.TheVariants.{Write, Read}
 use Rattle.races.specs.Mark.{rank}
-use Rattle.per_record.specs.Marks.{kind_of}
+use Rattle.per_record.specs.Marks.{Marks, mark_in, of_marked, kind_of}
 
 pub kind_back : (kind : Kind) → kind_of (rank kind) ≡ kind
 kind_back Write = refl
 kind_back Read = refl
+
+-- what the test says of an access is what the definition says of it
+pub frozen_to : (M : Marks) (a : Option Access) (r : Bool) (says : Access → Type 0) → MatchOption a (r ≡ false) says
+    → ((to : Access) → says to → r ≡ is_some (mark_in M to.«record»)) → r ≡ of_marked M a
+frozen_to M None r says e each = e
+frozen_to M (Some to) r says e each = each to e
