@@ -29,7 +29,7 @@ const SMALL: [(&str, &str); 9] = [
 ];
 
 // Writes a word or a number to standard output. A failed write is not told, and what follows is written all the same: the output is
-// compared whole.
+// compared whole. No `println!` of a line: where a write fails that a shorter one would not, other bytes would come out.
 fn say<R: Print, D: Display + Drop>(rt: &R, what: D) {
     let _ = print!(rt; "{what}");
 }
